@@ -1,0 +1,13 @@
+-- Numbers as bytes, least byte first
+use mathlib.Core.List.{List, [], _∷_}
+use Prim.Native.Nat.{ℕ, zero, suc, _+_, _*_, _/_, _%_}
+
+-- the n least bytes of x
+unfoldable pub le : ℕ → ℕ → List ℕ
+le zero x = []
+le (suc n) x = x % 256 ∷ le n (x / 256)
+
+-- the number that the bytes spell
+unfoldable pub number : List ℕ → ℕ
+number [] = 0
+number (b ∷ l) = b + 256 * number l

@@ -1,0 +1,13 @@
+pub mod Answers
+pub mod Table
+pub mod Scale
+pub mod Admission
+pub mod State
+pub mod Holds
+pub mod Keys
+pub mod Planes
+pub mod Events
+pub mod Record
+pub mod Calls
+pub mod Run
+pub mod Figures

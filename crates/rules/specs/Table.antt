@@ -1,0 +1,36 @@
+-- THE TABLE
+use mathlib.Core.Bool.{Bool, _&&_}
+use mathlib.Core.List.{List, map}
+use Prim.Native.Nat.{ℕ, _+_, _*_, _/_, min}
+use lib.Dec.{leb}
+use lib.ListN.{length, take, drop}
+use Rattle.ground.specs.Sums.{upFrom}
+use Rattle.ground.specs.Bytes.{number}
+
+-- period p, execution e, relative deadline D, in ticks
+pub record Row : Type 0 where
+  pub period : ℕ
+  pub exec : ℕ
+  pub deadline : ℕ
+
+-- "each 32 bits, least byte first": the four bytes from place i on
+abbrev pub wordAt : ℕ → List ℕ → ℕ
+wordAt i bytes = number (take 4 (drop i bytes))
+
+abbrev pub rowAt : List ℕ → ℕ → Row
+rowAt bytes i = record { period = wordAt (12 * i) bytes; exec = wordAt (12 * i + 4) bytes; deadline = wordAt (12 * i + 8) bytes }
+
+-- "A table is rows of 12 bytes", numbered in row order
+unfoldable pub rowsOf : List ℕ → List Row
+rowsOf bytes = map (rowAt bytes) (upFrom 0 (length bytes / 12))
+
+-- "Write q for the shorter of p and D."
+abbrev pub shorter : Row → ℕ
+shorter r = min r.period r.deadline
+
+-- "p, e, D each 1 to 1,048,576"
+abbrev pub inRange : ℕ → Bool
+inRange x = leb 1 x && leb x 1048576
+
+abbrev pub rowInRange : Row → Bool
+rowInRange r = inRange r.period && (inRange r.exec && inRange r.deadline)
