@@ -67,12 +67,12 @@ module _ {A : Type 0} where
   sumOf-none f d l h = omega (arith, sumOf-mono f (λ _. 0) d l (λ i hi. omega (arith, h i hi)), sumOf-const 0 l)
 
   -- two lists that agree place by place
-  pub sumOf-places : (f : A → ℕ) (d : A) (l k : List A) → length k ≡ length l → ((j : ℕ) → f (getD k j d) ≡ f (getD l j d)) → sumOf f k ≡ sumOf f l
+  pub sumOf-places : (f g : A → ℕ) (d : A) (l k : List A) → length k ≡ length l → ((j : ℕ) → f (getD k j d) ≡ g (getD l j d)) → sumOf f k ≡ sumOf g l
   unfolding sumOf
-  sumOf-places f d [] [] e h = refl
-  sumOf-places f d [] (y ∷ k) e h = absurd (omega arith)
-  sumOf-places f d (x ∷ l) [] e h = absurd (omega arith)
-  sumOf-places f d (x ∷ l) (y ∷ k) e h = omega (arith, h 0, sumOf-places f d l k (omega arith) (λ j. h (suc j)))
+  sumOf-places f g d [] [] e h = refl
+  sumOf-places f g d [] (y ∷ k) e h = absurd (omega arith)
+  sumOf-places f g d (x ∷ l) [] e h = absurd (omega arith)
+  sumOf-places f g d (x ∷ l) (y ∷ k) e h = omega (arith, h 0, sumOf-places f g d l k (omega arith) (λ j. h (suc j)))
 
 pub sumOf-map : {A B : Type 0} (f : B → ℕ) (g : A → B) (l : List A) → sumOf f (map g l) ≡ sumOf (λ x. f (g x)) l
 unfolding sumOf

@@ -1,8 +1,16 @@
 pub mod Computed
 pub mod Figures
+pub mod Euclid
+pub mod Scale
+pub mod Falling
 pub mod Slope
 pub mod Places
 pub mod Plane
 pub mod Events
 pub mod Time
 pub mod Slots
+pub mod Opening
+pub mod Standing
+pub mod Keeping
+pub mod Arriving
+pub mod Calls

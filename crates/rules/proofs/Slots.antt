@@ -8,38 +8,15 @@ use native.Mathlib.Decide.{decLt, ℕ-discrete}
 use native.Mathlib.Omega.{arith}
 use lib.Dec.{eqb}
 use lib.ListN.{length, replicate}
-use Rattle.ground.specs.Sums.{sumOf, upFrom}
+use Rattle.ground.specs.Sums.{sumOf, upFrom, same, times}
 use Rattle.ground.specs.Tests.{if_then_else_, Says}
 use Rattle.ground.proofs.Sums.{sumOf-append, sumOf-at}
 use Rattle.ground.proofs.Tests.{eqb-says}
+use Rattle.ground.proofs.Times.{same-no, same-swap, up-once, by-same}
 use Rattle.rules.specs.Record.{onProc, slotsOf}
 use Rattle.rules.specs.State.{Cond, asleep, resting, running, waiting, Task, nobody, at, procOf, runsOf, onOf, proc, runs, on}
 use Rattle.rules.proofs.Places.{inside}
 use Rattle.rules.proofs.Plane.{Fits}
-
--- 1 if the two are the same number, else 0
-abbrev pub same : ℕ → ℕ → ℕ
-same a b = if eqb a b then 1 else 0
-
--- how many of the slots hold n
-unfoldable pub times : ℕ → List ℕ → ℕ
-times n slots = sumOf (λ s. same s n) slots
-
-pub by-same : (P : ℕ → Type 0) (a b : ℕ) → (a ≡ b → P 1) → (a ≢ b → P 0) → P (same a b)
-by-same P a b f g = go (eqb a b) (eqb-says a b)
-  where
-    go : (t : Bool) → Says (a ≡ b) t → P (if t then 1 else 0)
-    go true e = f e
-    go false e = g e
-
--- p among i, i + 1, …, i + n - 1
-among : (p i n : ℕ) → (p < i → sumOf (λ x. same p x) (upFrom i n) ≡ 0) × (i ≤ p → p < i + n → sumOf (λ x. same p x) (upFrom i n) ≡ 1)
-unfolding sumOf upFrom
-among p i zero = ((λ h. refl), λ h h′. absurd (omega arith))
-among p i (suc n) =
-    let r = among p (suc i) n in
-    ( (λ h. by-same (λ x. x + sumOf (λ x. same p x) (upFrom (suc i) n) ≡ 0) p i (λ e. absurd (omega arith)) (λ e. omega (arith, r .0 (omega arith)))),
-      (λ h h′. by-same (λ x. x + sumOf (λ x. same p x) (upFrom (suc i) n) ≡ 1) p i (λ e. omega (arith, r .0 (omega arith))) (λ e. omega (arith, r .1 (omega arith) (omega arith)))))
 
 none-on : (f : ℕ → ℕ) (l : List ℕ) → ((x : ℕ) → f x ≡ 0) → sumOf f l ≡ 0
 unfolding sumOf
@@ -50,7 +27,7 @@ none-on f (x ∷ l) h = omega (arith, h x, none-on f l h)
 pub on-all : (m : ℕ) (c : Cond) → runsOf c ≤ procOf c → procOf c ≤ m → sumOf (λ p. onOf p c) (upFrom 1 m) ≡ runsOf c
 on-all m asleep lo hi = none-on (λ p. 0) (upFrom 1 m) (λ x. refl)
 on-all m resting lo hi = none-on (λ p. 0) (upFrom 1 m) (λ x. refl)
-on-all m (running p a) lo hi = among p 1 m .1 (omega arith) (omega arith)
+on-all m (running p a) lo hi = up-once p 1 m (omega arith) (omega arith)
 on-all m (waiting a) lo hi = none-on (λ p. 0) (upFrom 1 m) (λ x. refl)
 
 -- the first task on p
@@ -94,20 +71,20 @@ on-proc p hp (t ∷ l) h i j hi = go (eqb (proc t) p) (eqb-says (proc t) p) (on-
 
 -- the slots hold a task once if it runs, and else not at all
 slots-from : (l : List Task) (j : ℕ) → ((p : ℕ) → sumOf (on p) l ≤ 1) → (i n : ℕ) → 0 < i → times (suc j) (map (λ p. onProc p 1 l) (upFrom i n)) ≡ sumOf (λ p. on p (at j l)) (upFrom i n)
-unfolding times sumOf upFrom
+unfolding sumOf upFrom
 slots-from l j h i zero hi = refl
-slots-from l j h i (suc n) hi = let s : 1 + j ≡ suc j = omega arith in omega (arith, rw s at (on-proc i hi l (h i) 1 j (omega arith)), slots-from l j h (suc i) n (omega arith))
+slots-from l j h i (suc n) hi = let s : 1 + j ≡ suc j = omega arith in omega (arith, same-swap (suc j) (onProc i 1 l), rw s at (on-proc i hi l (h i) 1 j (omega arith)), slots-from l j h (suc i) n (omega arith))
 
 -- zeros hold nobody
 times-zeros : (j n : ℕ) → times (suc j) (replicate n 0) ≡ 0
-unfolding times sumOf
+unfolding sumOf
 times-zeros j zero = refl
-times-zeros j (suc n) = by-same (λ x. x + sumOf (λ s. same s (suc j)) (replicate n 0) ≡ 0) 0 (suc j) (λ e. absurd (omega arith)) (λ e. omega (arith, times-zeros j n))
+times-zeros j (suc n) = omega (arith, same-no (suc j) 0 (λ e. omega arith), times-zeros j n)
 
 pub slots-ok : {c m scale R : ℕ} (l : List Task) → Fits c m scale R l → (j : ℕ) → times (suc j) (slotsOf m l) ≡ runs (at j l)
-unfolding slotsOf times
+unfolding slotsOf
 slots-ok {m = m} l F j =
     let first : List ℕ = map (λ p. onProc p 1 l) (upFrom 1 m) in
-    sumOf-append (λ s. same s (suc j)) first (replicate (16 - m) 0)
+    sumOf-append (same (suc j)) first (replicate (16 - m) 0)
     ∙ (let a : times (suc j) first ≡ runs (at j l) = slots-from l j (F .apart) 1 m (omega arith) ∙ on-all m (at j l .cond) (F .low j) (F .high j) in
       omega (arith, a, times-zeros j (16 - m)))

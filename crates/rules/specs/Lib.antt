@@ -4,6 +4,7 @@ pub mod Scale
 pub mod Admission
 pub mod State
 pub mod Holds
+pub mod Together
 pub mod Keys
 pub mod Planes
 pub mod Events
