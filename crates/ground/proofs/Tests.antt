@@ -1,13 +1,15 @@
 -- What the tests say. A proof takes a test's value with what it says beside it, and goes by clauses.
-use mathlib.Core.Path.{_≡_, refl, ap}
+use mathlib.Core.Path.{_≡_, refl, ap, subst}
 use mathlib.Core.Bool.{Bool, true, false, not, _&&_, _||_}
 use mathlib.Core.List.{List, [], _∷_}
 use mathlib.Core.Logic.{_⊎_, inl, inr}
-use Prim.Native.Nat.{ℕ, zero, suc, _≤_, _<_}
+use Prim.Native.Nat.{ℕ, zero, suc, _+_, _≤_, _<_}
 use native.Mathlib.Omega.{arith}
 use lib.Dec.{leb, ltb, eqb, leb→le, le→leb, eqb→eq, eqb-refl, T}
-use lib.ListN.{getD}
+use lib.ListN.{length, getD}
+use native.Mathlib.Decide.{ℕ-discrete}
 use Rattle.ground.specs.Tests.{if_then_else_, Says, every}
+use Rattle.ground.specs.Sums.{upFrom}
 
 pub leb-says : (a b : ℕ) → Says (a ≤ b) (leb a b)
 leb-says a b = go (leb a b) (leb→le a b) (le→leb a b)
@@ -68,14 +70,29 @@ pub of-false : {P : Type 0} (b : Bool) → Says P b → b ≡ false → ¬ P
 of-false true s e = let z : _≡_ {A = ℕ} 0 1 = cc in absurd (omega arith)
 of-false false s e = s
 
--- every element, by its place; past the end stands d, which passes
-pub every-says : {A : Type 0} (P : A → Type 0) (f : A → Bool) (d : A) → ((x : A) → Says (P x) (f x)) → P d → (l : List A)
-    → Says ((j : ℕ) → P (getD l j d)) (every f l)
+-- every element, by its place
+pub every-says : {A : Type 0} (P : A → Type 0) (f : A → Bool) (d : A) → ((x : A) → Says (P x) (f x)) → (l : List A)
+    → Says ((j : ℕ) → j < length l → P (getD l j d)) (every f l)
 unfolding every
-every-says P f d s z [] = λ j. z
-every-says {A} P f d s z (t ∷ l) = go (f t) (s t) (every f l) (every-says P f d s z l)
+every-says P f d s [] = λ j h. absurd (omega arith)
+every-says P f d s (t ∷ l) = go (f t) (s t) (every f l) (every-says P f d s l)
   where
-    go : (a : Bool) → Says (P t) a → (b : Bool) → Says ((j : ℕ) → P (getD l j d)) b → Says ((j : ℕ) → P (getD (t ∷ l) j d)) (a && b)
-    go true p true q = elim [ zero ↦ p | suc j ↦ q j ]
-    go true p false q = λ h. q (λ j. h (suc j))
-    go false p b q = λ h. p (h 0)
+    go : (a : Bool) → Says (P t) a → (b : Bool) → Says ((j : ℕ) → j < length l → P (getD l j d)) b → Says ((j : ℕ) → j < length (t ∷ l) → P (getD (t ∷ l) j d)) (a && b)
+    go true p true q = elim [ zero ↦ λ h. p | suc j ↦ λ h. q j (omega arith) ]
+    go true p false q = λ h. q (λ j hj. h (suc j) (omega arith))
+    go false p b q = λ h. p (h 0 (omega arith))
+
+-- every one of the numbers i, i + 1, …
+pub every-up-says : (P : ℕ → Type 0) (f : ℕ → Bool) → ((x : ℕ) → Says (P x) (f x)) → (i n : ℕ) → Says ((x : ℕ) → i ≤ x → x < i + n → P x) (every f (upFrom i n))
+unfolding every upFrom
+every-up-says P f s i zero = λ x a b. absurd (omega arith)
+every-up-says P f s i (suc n) = go (f i) (s i) (every f (upFrom (suc i) n)) (every-up-says P f s (suc i) n)
+  where
+    go : (a : Bool) → Says (P i) a → (b : Bool) → Says ((x : ℕ) → suc i ≤ x → x < suc i + n → P x) b → Says ((x : ℕ) → i ≤ x → x < i + suc n → P x) (a && b)
+    go true p true q = λ x a b. at x a b (ℕ-discrete i x)
+      where
+        at : (x : ℕ) → i ≤ x → x < i + suc n → Dec (i ≡ x) → P x
+        at x a b (yes e) = subst P e p
+        at x a b (no e) = q x (omega arith) (omega arith)
+    go true p false q = λ h. q (λ x a b. h x (omega arith) (omega arith))
+    go false p b q = λ h. p (h i (omega arith) (omega arith))

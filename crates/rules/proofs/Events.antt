@@ -18,7 +18,7 @@ use Rattle.rules.specs.Events.{giveTo, give, takeFrom, seize, bCase, bEv
 use Rattle.rules.specs.Keys.{waitKeyOf, runKey, waitKey, Best, nope, best, least}
 use Rattle.rules.specs.State.{Cond, asleep, resting, running, waiting, Task, nobody, at, become, isAwake, amountOf, runsOf, waitsOf, amount, proc, runs, waits}
 use Rattle.rules.specs.Table.{Row}
-use Rattle.rules.proofs.Places.{at-same, at-other, length-become, one-become, keeps, sum-two, IsLeast, least-is, by-places}
+use Rattle.rules.proofs.Places.{at-same, at-other, length-become, one-become, keeps, anywhere, sum-two, IsLeast, least-is, by-places}
 use Rattle.rules.proofs.Plane.{Fits, is-waiting, not-running, is-running, give-ok, rest-ok, Alive, crowded, victim, seize-ok}
 
 -- an open plane with R sub-ticks left, between steps
@@ -157,14 +157,6 @@ module _ (m scale R : ℕ) where
   in-time resting h s z = omega arith
   in-time (running p a) h s z = omega arith
   in-time (waiting a) h s z = if-by (λ x. x ≡ 0 → a + 1 ≤ R) (leb R a) (leb-says R a) (λ _ e. absurd (omega arith)) (λ n e. omega arith) z
-
-  -- past the list nobody runs or waits, so what holds at every place of the list holds at every number
-  anywhere : (P : Task → Type 0) (l : List Task) → P nobody → ((j : ℕ) → j < length l → P (at j l)) → (j : ℕ) → P (at j l)
-  anywhere P l p h j = go (decLt j (length l))
-    where
-      go : Dec (j < length l) → P (at j l)
-      go (yes q) = h j q
-      go (no q) = let past : length l ≤ j = omega arith in rw (List·getD-eq-default l nobody) p
 
   module _ (hR : 0 < R) (hs : 0 < scale) (end now : ℕ) (he : now + R ≡ end) where
     pub record CDone (l k : List Task) : Type 0 where

@@ -242,14 +242,14 @@ limit-by P tick t f g = go (isAwake t.cond) f g
     go true f g = f refl
     go false f g = g (λ e. not-both ⊥ e)
 
-ready-by : (len : ℕ) (P : Task → Type 0) (t : Task) → P t → P (be (waiting (t.share * len)) t) → P (ready len t)
+pub ready-by : (len : ℕ) (P : Task → Type 0) (t : Task) → P t → P (be (waiting (t.share * len)) t) → P (ready len t)
 ready-by len P t p q = go (isAwake t.cond)
   where
     go : (b : Bool) → P (if b then be (waiting (t.share * len)) t else t)
     go true = q
     go false = p
 
-ready-awake : (len : ℕ) (t : Task) → isAwake (ready len t .cond) ≡ isAwake t.cond
+pub ready-awake : (len : ℕ) (t : Task) → isAwake (ready len t .cond) ≡ isAwake t.cond
 ready-awake len t = go t.cond
   where
     go : (c : Cond) → isAwake ((if isAwake c then be (waiting (t.share * len)) t else be c t) .cond) ≡ isAwake c

@@ -14,3 +14,9 @@ pub mod Standing
 pub mod Keeping
 pub mod Arriving
 pub mod Calls
+pub mod Admitting
+pub mod Holding
+pub mod Refusing
+pub mod Reading
+pub mod Books
+pub mod Demands

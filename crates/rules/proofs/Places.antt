@@ -60,7 +60,14 @@ keeps g l i c hi e j = go (ℕ-discrete j i)
     go (yes f) = rw (f, at-same) e
     go (no n) = rw at-other
 
--- past the list there is nobody
+-- past the list there is nobody: what holds of nobody and at every place of the list holds at every number
+pub anywhere : (P : Task → Type 0) (l : List Task) → P nobody → ((j : ℕ) → j < length l → P (at j l)) → (j : ℕ) → P (at j l)
+anywhere P l p h j = go (decLt j (length l))
+  where
+    go : Dec (j < length l) → P (at j l)
+    go (yes q) = h j q
+    go (no q) = let past : length l ≤ j = omega arith in rw (List·getD-eq-default l nobody) p
+
 pub inside : (f : Task → ℕ) (l : List Task) (i : ℕ) → f nobody ≡ 0 → 0 < f (at i l) → i < length l
 inside f l i z h = go (decLt i (length l))
   where

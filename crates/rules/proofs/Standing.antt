@@ -18,7 +18,7 @@ use Rattle.rules.specs.Together.{Awake, Table, Seats, Shut, Going}
 use Rattle.rules.proofs.Events.{Stands}
 use Rattle.rules.proofs.Opening.{Closed}
 use Rattle.rules.proofs.Places.{inside}
-use Rattle.rules.proofs.Scale.{scale-positive, scale-multiple, share-at-most, share-positive}
+use Rattle.rules.proofs.Scale.{scale-positive, scale-multiple, share-exact, share-at-most, share-positive}
 use Rattle.rules.proofs.Slots.{on-all}
 
 -- what the events use of an admitted table
@@ -28,9 +28,11 @@ pub record Facts (m scale : ℕ) (l : List Task) : Type 0 where
   pub most : (j : ℕ) → at j l .share ≤ scale
   pub some-share : (j : ℕ) → j < length l → 0 < at j l .share
   pub some-q : (j : ℕ) → j < length l → 0 < short (at j l)
+  -- a share of q ticks is e ticks
+  pub exact : (j : ℕ) → j < length l → at j l .share * short (at j l) ≡ at j l .row .exec * scale
   pub admit : sumOf (λ (t : Task). t.share) l ≤ m * scale
 
-row-at : (l : List Task) (j : ℕ) → getD (map (λ (t : Task). t.row) l) j noRow ≡ at j l .row
+pub row-at : (l : List Task) (j : ℕ) → getD (map (λ (t : Task). t.row) l) j noRow ≡ at j l .row
 row-at l j = List·getD-map (λ (t : Task). t.row) l j nobody
 
 pub facts : {m scale : ℕ} (l : List Task) → Table m scale l → Facts m scale l
@@ -40,6 +42,7 @@ facts {m} {scale} l T = record {
     most = λ j. most j (decLt j (length l));
     some-share = λ j hj. rw (T .share-is j hj) (share-positive scale (at j l .row) pos (divides j hj) (omega (arith, T .ranges j hj)));
     some-q = some-q;
+    exact = λ j hj. ap (λ x. x * short (at j l)) (T .share-is j hj) ∙ share-exact scale (at j l .row) (divides j hj);
     admit = T .sum
   }
   where

@@ -10,5 +10,7 @@ pub mod Planes
 pub mod Events
 pub mod Record
 pub mod Calls
+pub mod Reasons
 pub mod Run
+pub mod Demands
 pub mod Figures
