@@ -27,7 +27,7 @@ pub row-says : (r : Row) → Says (RowInRange r) (rowInRange r)
 row-says r =
     says-as (rowInRange r) (λ h. (h .0, h .1 .0, h .1 .1)) (λ h. (h .0, (h .1, h .2)))
     (and-says (InRange r.period) (InRange r.exec × InRange r.deadline) (inRange r.period) (inRange r.exec && inRange r.deadline) (range-says r.period)
-      (and-says (InRange r.exec) (InRange r.deadline) (inRange r.exec) (inRange r.deadline) (range-says r.exec) (range-says r.deadline)))
+    (and-says (InRange r.exec) (InRange r.deadline) (inRange r.exec) (inRange r.deadline) (range-says r.exec) (range-says r.deadline)))
 
 pub fault-says : (r : Row) → Says (RowOk r) (isDone (faultOf r))
 fault-says r = go (rowInRange r) (row-says r) (ltb (shorter r) r.exec) (ltb-says (shorter r) r.exec)

@@ -54,7 +54,7 @@ module _ {m : ℕ} (l : List Task) (S : Seats m l) where
   room-for p hp hm e =
       let one : sumOf (λ x. same p x) (upFrom 1 m) ≡ 1 = up-once p 1 m (omega arith) (omega arith) in
       let le = range-le (λ x. sumOf (on x) l + same p x) (λ x. 1) 1 m (λ x a b. by-same (λ y. sumOf (on x) l + y ≤ 1) p x
-        (λ q. omega (arith, rw q at (idle-free p hp e))) (λ q. omega (arith, S .apart x))) in
+      (λ q. omega (arith, rw q at (idle-free p hp e))) (λ q. omega (arith, S .apart x))) in
       omega (arith, seats-count m l (S .low) (S .high), sumOf-add (λ x. sumOf (on x) l) (λ x. same p x) (upFrom 1 m), range-ones 1 m)
 
   -- with no processor idle, m run
@@ -120,16 +120,16 @@ module _ (i tick : ℕ) (c : Cond) (l : List Task) (hi : i < length l) where
 
   wake-lasts : {scale now : ℕ} → tick * scale ≤ now → Lasts scale now l → Lasts scale now (wake i tick c l)
   wake-lasts {scale} {now} h L = record {
-      known = λ j. wake-by j (λ t. Awake t → t.arrived ≡ true) (λ _ w. refl) (λ _. L .known j);
-      came = λ j. wake-by j (λ t. t.arrived ≡ true → t.last * scale ≤ now) (λ _ w. h) (λ _. L .came j)
-    }
+    known = λ j. wake-by j (λ t. Awake t → t.arrived ≡ true) (λ _ w. refl) (λ _. L .known j);
+    came = λ j. wake-by j (λ t. t.arrived ≡ true → t.last * scale ≤ now) (λ _ w. h) (λ _. L .came j);
+  }
 
 -- into a closed plane: "the task is simply awake"
 pub wakes-shut : {m scale now : ℕ} (i : ℕ) (l : List Task) → i < length l → Resting m scale now l → Resting m scale now (wake i (now / scale) resting l)
 wakes-shut {m} {scale} {now} i l hi P =
     let tick = now / scale in
     let idle : (j : ℕ) → runs (at j (wake i tick resting l)) + waits (at j (wake i tick resting l)) ≡ 0 =
-      λ j. wake-by i tick resting l hi j (λ t. runs t + waits t ≡ 0) (λ _. refl) (λ _. P .shut .idle j) in
+    λ j. wake-by i tick resting l hi j (λ t. runs t + waits t ≡ 0) (λ _. refl) (λ _. P .shut .idle j) in
     record {
       table = wake-table i tick resting l hi (P .table);
       seats = idle-seats m _ idle;
@@ -137,8 +137,8 @@ wakes-shut {m} {scale} {now} i l hi P =
       shut = record {
         whole = P .shut .whole;
         idle = idle;
-        due = λ j. wake-by i tick resting l hi j (λ t. Awake t → tick < t.last + short t) (λ _ w. omega (arith, facts l (P .table) .some-q i hi)) (λ _. P .shut .due j)
-      }
+        due = λ j. wake-by i tick resting l hi j (λ t. Awake t → tick < t.last + short t) (λ _ w. omega (arith, facts l (P .table) .some-q i hi)) (λ _. P .shut .due j);
+      };
     }
 
 -- into an open plane
@@ -205,14 +205,14 @@ module _ {m scale now e : ℕ} (i tick : ℕ) (l : List Task) (hi : i < length l
           low = λ j. wake-by i tick n l hi j (λ t. runs t ≤ proc t) (λ _. omega arith) (λ _. P .seats .low j);
           high = λ j. wake-by i tick n l hi j (λ t. proc t ≤ m) (λ _. omega arith) (λ _. P .seats .high j);
           apart = λ p′. one-more p p′ _ (λ x. sumOf (on x) l) (eqb p p′) (eqb-says p p′) (idle-free l (P .seats) p hp o) (P .seats .apart p′)
-            (let z : on p′ (at i l) ≡ 0 = ap (onOf p′) sl in omega (arith, wake-sum i tick n l hi (on p′)));
+              (let z : on p′ (at i l) ≡ 0 = ap (onOf p′) sl in omega (arith, wake-sum i tick n l hi (on p′)));
           most = omega arith;
           busy = λ w. omega (arith, P .going .busy (omega arith));
           total = total-wake n refl refl;
-          admit = admit-wake n
+          admit = admit-wake n;
         };
         alive = λ j. wake-by i tick n l hi j (λ t. runs t ≤ amount t) (λ _. omega arith) (λ _. S₀ .alive j);
-        below = λ j. wake-by i tick n l hi j (λ t. amount t + waits t ≤ R) (λ _. omega arith) (λ _. S₀ .below j)
+        below = λ j. wake-by i tick n l hi j (λ t. amount t + waits t ≤ R) (λ _. omega arith) (λ _. S₀ .below j);
       }
 
   fits-wait : ((p : ℕ) → 1 ≤ p → p < 1 + m → 0 < onProc p 1 l) → Fits 0 m scale R (wake i tick (waiting a) l)
@@ -232,7 +232,7 @@ module _ {m scale now e : ℕ} (i tick : ℕ) (l : List Task) (hi : i < length l
         most = omega (arith, S₀ .fits .most);
         busy = λ w. omega (arith, S₀ .fits .most);
         total = total-wake n refl refl;
-        admit = admit-wake n
+        admit = admit-wake n;
       }
 
   not-awake : ¬ Awake (at i l)
@@ -258,18 +258,23 @@ module _ {m scale now e : ℕ} (i tick : ℕ) (l : List Task) (hi : i < length l
           lasts = lasts-kept A (omega arith) (wake-lasts i tick c l hi (omega arith) (P .lasts));
           going = record {
             later = P .going .later;
-            alive = S .alive; left = S .fits .left; below = S .below;
+            alive = S .alive;
+            left = S .fits .left;
+            below = S .below;
             busy = λ v. omega (arith, S .fits .busy v);
             total = S .fits .total;
             due = λ j v. rw (A .last j, A .row j)
-              (wake-by i tick c l hi j (λ t. Awake t → e ≤ t.last + short t) (λ _ _. P .going .free i hi not-awake tick (omega arith) late) (λ _. P .going .due j) (A .awake j v));
+                (wake-by i tick c l hi j (λ t. Awake t → e ≤ t.last + short t) (λ _ _. P .going .free i hi not-awake tick (omega arith) late) (λ _. P .going .due j) (A .awake j v));
             free = λ j hj v t ht b.
-              let per : period (at j k) ≡ period (at j w) = ap (λ (r : Row). r .period) (A .row j) in
-              rw (A .row j) (wake-by i tick c l hi j (λ t′. ¬ Awake t′ → (t′ .arrived ≡ true → t′ .last + period t′ ≤ t) → e ≤ t + short t′) (λ _ n _. absurd (n wc))
-                (λ _ n b′. P .going .free j (omega (arith, A .size, wake-size i tick c l hi)) n t ht b′) (λ v′. v (still j v′)) (λ q. omega (arith, b (A .arrived j ∙ q), A .last j, per)))
-          }
+                let per : period (at j k) ≡ period (at j w) = ap (λ (r : Row). r .period) (A .row j) in
+                rw (A .row j) (wake-by i tick c l hi j (λ t′. ¬ Awake t′ → (t′ .arrived ≡ true → t′ .last + period t′ ≤ t) → e ≤ t + short t′) (λ _ n _. absurd (n wc))
+                (λ _ n b′. P .going .free j (omega (arith, A .size, wake-size i tick c l hi)) n t ht b′) (λ v′. v (still j v′)) (λ q. omega (arith, b (A .arrived j ∙ q), A .last j, per)));
+          };
         };
-        cond = c; whole-amount = ea; awake = wc; kept = K
+        cond = c;
+        whole-amount = ea;
+        awake = wc;
+        kept = K;
       }
 
   -- "If a processor is idle, take the lowest. Else, if the share is below L, wait. Else take the processor of the running task with the least key"

@@ -104,8 +104,13 @@ module _ {m scale now e : ℕ} (l : List Task) (rs : List Record) (P : Running m
   -- what a job ran and has left, after the record
   spent : (j : ℕ) → Awake (at j l) → ran (suc j) (at j l .last * scale) (rs ++ (this ∷ [])) + amountOf (spend (to - now) (at j l .cond)) ≡ at j l .share * (e - at j l .last)
   spent j w =
-      omega (arith, B j w, left-after (to - now) (at j l .cond) (room .run j), ran-more (suc j) (at j l .last * scale) rs this (P .lasts .came j (P .lasts .known j w)),
-        ap (λ x. x * (to - now)) (slots-ok l (running-stands l P .fits) j))
+      omega (
+        arith,
+        B j w,
+        left-after (to - now) (at j l .cond) (room .run j),
+        ran-more (suc j) (at j l .last * scale) rs this (P .lasts .came j (P .lasts .known j w)),
+        ap (λ x. x * (to - now)) (slots-ok l (running-stands l P .fits) j),
+      )
 
   pub runs-on-books : to < e * scale → Running-books scale e (events (e * scale) to (advance (to - now) l)) (rs ++ (this ∷ []))
   runs-on-books h j w =
@@ -129,7 +134,7 @@ module _ {m scale now e : ℕ} (l : List Task) (rs : List Record) (P : Running m
       let tick : e * scale / scale ≡ e = tick-of (e * scale) scale e pos refl in
       rw (tick, at-closed (to - now) e j l)
       (close-by e (λ u. Awake u → ran (suc j) (u.last * scale) (rs ++ (this ∷ [])) ≡ u.share * (e - u.last)) (be (spend (to - now) (at j l .cond)) (at j l)) (not-both _)
-        (λ w n _. ends-exact q j (sym (still-awake (to - now) (at j l .cond)) ∙ w)))
+      (λ w n _. ends-exact q j (sym (still-awake (to - now) (at j l .cond)) ∙ w)))
 
 -- ARRIVING: a new job has run nothing and has its whole amount left
 pub wakes-books : {m scale now : ℕ} (i : ℕ) (l : List Task) (rs : List Record) → i < length l → Resting m scale now l → Fresh now rs → Closing scale now l rs → Closing scale now (wake i (now / scale) resting l) rs
@@ -147,4 +152,4 @@ arrives-books {scale = scale} {e = e} i tick l rs hi P whole sl late k A f B j w
     let share : at j k .share ≡ at j v .share = ap (λ (c : Core). c .share) same in
     let left : amount (at j k) ≡ amount (at j v) = ap (λ (c : Core). c .left) same in
     rw (last, share, left) (wake-by i tick (A .cond) l hi j (λ t. Awake t → ran (suc j) (t.last * scale) rs + amount t ≡ t.share * (e - t.last))
-      (λ _ _. omega (arith, f (suc j) (tick * scale) (omega arith), A .whole-amount)) (λ _. B j) aw)
+    (λ _ _. omega (arith, f (suc j) (tick * scale) (omega arith), A .whole-amount)) (λ _. B j) aw)

@@ -19,7 +19,8 @@ use Rattle.rules.specs.Planes.{endOf, openAt, openCase, opened}
 use Rattle.rules.specs.State.{running, Cond, asleep, resting, waiting, Task, State, at, period, isAwake, tickOf}
 use Rattle.rules.specs.Together.{Awake, Plane, Together}
 use Rattle.rules.proofs.Arriving.{idle-is, wakes-shut, arrives}
-use Rattle.rules.proofs.Keeping.{Running, running-stands, runs-on, Resting, closes, opens-plane}
+use Rattle.rules.proofs.Events.{Core}
+use Rattle.rules.proofs.Keeping.{Running, running-stands, runs-on, Resting, closes, ready-by, ready-awake, opens-plane}
 use Rattle.rules.proofs.Time.{Next, next-ok}
 
 -- the present of a whole tick
@@ -33,6 +34,27 @@ open-parts s e H q = record { table = H .table; seats = H .seats; lasts = H .las
 
 pub shut-parts : (s : State) → Together s → s.plane ≡ none → Resting s.m s.scale s.now s.tasks
 shut-parts s H q = record { table = H .table; seats = H .seats; lasts = H .lasts; shut = subst (Plane s) q (H .plane) }
+
+-- opening changes neither the row nor the last arrival of a task, nor whether it is awake
+pub record Reopened (l k : List Task) (j : ℕ) : Type 0 where
+  pub row : at j k .row ≡ at j l .row
+  pub last : at j k .last ≡ at j l .last
+  pub awake : isAwake (at j k .cond) ≡ isAwake (at j l .cond)
+
+pub opened-same : (s : State) → Together s → (j : ℕ) → Reopened s.tasks (opened s .tasks) j
+unfolding opened
+opened-same s H j = go s.plane refl
+  where
+    go : (p : Option ℕ) → s.plane ≡ p → Reopened s.tasks (openCase s p .tasks) j
+    go none q = unfold openCase openAt in (
+        let O = opens-plane s.tasks (shut-parts s H q) in
+        let len = endOf (tickOf s) s.tasks - tickOf s in
+        record {
+          row = ap (λ (c : Core). c .row) (O .same j) ∙ ready-by len (λ u. u.row ≡ at j s.tasks .row) (at j s.tasks) refl refl;
+          last = ap (λ (c : Core). c .last) (O .same j) ∙ ready-by len (λ u. u.last ≡ at j s.tasks .last) (at j s.tasks) refl refl;
+          awake = ap (λ (c : Core). c .awake) (O .same j) ∙ ready-awake len (at j s.tasks);
+        })
+    go (some e) q = unfold openCase in (record { row = refl; last = refl; awake = refl })
 
 -- STEP
 -- the instant that a step runs to, in an open plane

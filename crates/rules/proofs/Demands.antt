@@ -81,12 +81,12 @@ admitted-together m rs P =
         scale-is = ap scaleOf (sym (rows-back l rs));
         scale-most = P .scale-most;
         share-is = λ j h. let hj : j < length rs = omega arith in rw (at-fresh l rs j hj);
-        sum = omega (arith, P .sum, sumOf-map (λ (t : Task). t.share) (fresh l) rs)
+        sum = omega (arith, P .sum, sumOf-map (λ (t : Task). t.share) (fresh l) rs);
       };
       clock = omega arith;
       seats = idle-seats m k idle;
       lasts = record { known = λ j w. none′ _ j w; came = λ j a. not-both _ (sym (all-asleep l rs j .1) ∙ a) };
-      plane = record { whole = omega (arith, zero-tick l); idle = idle; due = λ j w. none′ _ j w }
+      plane = record { whole = omega (arith, zero-tick l); idle = idle; due = λ j w. none′ _ j w };
     }
   where
     zero-tick : (l : ℕ) → 0 / l * l ≤ 0
@@ -177,10 +177,13 @@ module _ (s : State) (rs : List Record) (h e : ℕ) (P : Running s.m s.scale s.n
           record {
             exact = λ _. (e, q, omega (arith, came-before s.tasks P j w), rw x (omega (arith, ap (λ y. y * (e - t .last)) exact-share)));
             in-time = omega (arith, q, mul-le-mul-right s.scale due);
-            whole = λ z. (refl, x ∙ (
-              let le : t .last + short t ≤ e = le-of-mul-le-mul-right (omega (arith, q, z)) (F .scale-pos) in
-              let y : e - t .last ≡ short t = omega (arith, due) in
-              rw y exact-share))
+            whole = λ z. (
+              refl,
+              x ∙ (
+                  let le : t .last + short t ≤ e = le-of-mul-le-mul-right (omega (arith, q, z)) (F .scale-pos) in
+                  let y : e - t .last ≡ short t = omega (arith, due) in
+                  rw y exact-share),
+            );
           }
       by false q =
           let le : to ≤ e * s.scale = N .by-end in
@@ -188,7 +191,7 @@ module _ (s : State) (rs : List Record) (h e : ℕ) (P : Running s.m s.scale s.n
           record {
             exact = λ z. some-none e z;
             in-time = omega (arith, mul-le-mul-right s.scale due);
-            whole = λ z. absurd (omega (arith, mul-le-mul-right s.scale due))
+            whole = λ z. absurd (omega (arith, mul-le-mul-right s.scale due));
           }
         where
           some-none : {X : Type 0} (e : ℕ) → _≡_ {A = Option ℕ} (some e) none → X
@@ -210,7 +213,8 @@ module _ (s : State) (rs : List Record) (h e : ℕ) (P : Running s.m s.scale s.n
       record {
         from = fits-clock s.now s.scale (omega (arith, N .moves)) (P .table .scale-most);
         to = fits-clock to s.scale c (P .table .scale-most);
-        sixteen = sl .0; each = sl .1
+        sixteen = sl .0;
+        each = sl .1;
       }
 
 -- what a step that is not refused does to the books, in an open plane or a new one
@@ -229,7 +233,7 @@ move-does s rs h e P B f lt hc =
       books = after-books s rs h e P B f lt (eqb n (e * s.scale)) (eqb-says n (e * s.scale));
       served = after-served s rs h e P B f lt (eqb n (e * s.scale)) (eqb-says n (e * s.scale));
       once = once-this s rs h e P B f lt;
-      written = written-this s rs h e P B f lt hc
+      written = written-this s rs h e P B f lt hc;
     }
 
 case-does : (s : State) (rs : List Record) (h : ℕ) → Together s → Fresh s.now rs → s.now < h * s.scale → h ≤ 4294967295 → (p : Option ℕ) → s.plane ≡ p → Books s p rs
@@ -283,11 +287,11 @@ module _ (r : Run) (G : Good r) (h : ℕ) (room : List ℕ) (d : stepAnswer (r .
       let x = moving s h in
       let M = moving-moves s h (G .together) (reason .3) in
       let made : Good (record { state = x .state; records = r .records ++ (x .rec ∷ []) }) = record {
-          together = moving-keeps s h (G .together) (reason .3) (reason .2);
-          books = does .books;
-          fresh = rw (M .arrives) (fresh-more (r .records) (x .rec) (M .from-now) (M .later) (G .fresh));
-          once = once-more (r .records) (x .rec) (G .once) (does .once)
-        } in
+        together = moving-keeps s h (G .together) (reason .3) (reason .2);
+        books = does .books;
+        fresh = rw (M .arrives) (fresh-more (r .records) (x .rec) (M .from-now) (M .later) (G .fresh));
+        once = once-more (r .records) (x .rec) (G .once) (does .once);
+      } in
       subst Good (sym (run-is (step-is .state) (step-is .records))) made
     where
       run-is : {a b : State} {x y : List Record} → a ≡ b → x ≡ y → _≡_ {A = Run} (record { state = a; records = x }) (record { state = b; records = y })
@@ -328,7 +332,7 @@ arrive-good r G task d =
       together = arriving-keeps s (task - 1) (G .together) C;
       books = arrive-books s (r .records) (task - 1) (G .together) C (G .fresh) s.plane refl (G .books);
       fresh = G .fresh;
-      once = G .once
+      once = G .once;
     })
 
 -- done, or refused
@@ -384,15 +388,18 @@ pub run-of-good : (bytes : List ℕ) (m : ℕ) → admit bytes m .answer ≡ Don
 unfolding runOf
 run-of-good bytes m d cs = run-good cs (starting (admit bytes m .state)) (start-good bytes m d)
 
+-- one more step that is not refused
+pub step-serves : (r : Run) → Good r → (h : ℕ) (room : List ℕ) → step (r .state) h room .answer ≡ Done → (j : ℕ) → Awake (at j (opened (r .state) .tasks))
+    → Served (at j (opened (r .state) .tasks)) j (step (r .state) h room .state) (perform r (stepCall h room) .records)
+unfolding step
+step-serves r G h room a j w =
+    let D = does r G h room a in
+    let S = step-is r G h room a in
+    subst (λ (x : List Record). Served (at j (opened (r .state) .tasks)) j (step (r .state) h room .state) x) (sym (S .records))
+    (subst (λ (x : State). Served (at j (opened (r .state) .tasks)) j x (r .records ++ (moving (r .state) h .rec ∷ []))) (sym (S .state)) (D .served j w))
+
 -- DEMAND 3
 pub demand-3 : Demand3
-unfolding step
 demand-3 bytes m d cs h room =
-    let r = runOf bytes m cs in
     let G = run-of-good bytes m d cs in
-    ( (λ a j w.
-        let D = does r G h room a in
-        let S = step-is r G h room a in
-        subst (λ (x : List Record). Served (at j (opened (r .state) .tasks)) j (step (r .state) h room .state) x) (sym (S .records))
-        (subst (λ (x : State). Served (at j (opened (r .state) .tasks)) j x (r .records ++ (moving (r .state) h .rec ∷ []))) (sym (S .state)) (D .served j w))),
-      G .once)
+    (step-serves (runOf bytes m cs) G h room, G .once)

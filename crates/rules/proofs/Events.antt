@@ -99,7 +99,7 @@ module _ (m scale R : ℕ) where
         fits = give-ok end p l′ (r .0) (r .2) (r .3) (r .1) (least (waitKey end) l′) L;
         this = still i (rw (at-same l i resting hi) (omega arith));
         others = λ j a. still j (one-become (λ t. runs t ≤ amount t) l i resting hi (omega arith) j a);
-        kept = kept-trans (kept-become l i (running p 0) resting hi e refl) (kept-give end p l′ (least (waitKey end) l′) L)
+        kept = kept-trans (kept-become l i (running p 0) resting hi e refl) (kept-give end p l′ (least (waitKey end) l′) L);
       }
 
   pub b-ok : (end : ℕ) (l : List Task) (i : ℕ) → i < length l → Fits 0 m scale R l → (c : Cond) → at i l .cond ≡ c → BDone l i (bCase end l i c)
@@ -117,10 +117,11 @@ module _ (m scale R : ℕ) where
   unfolding bEvents bEvent
   b-all end l F = by-places (bEvent end) (length l) (AfterB l)
       (λ i k hi q.
-        let d = b-ok end k i (omega (arith, q .2 .size)) (q .0) (at i k .cond) refl in
-        ( d .fits,
-          (λ j hj. next i k d j hj (q .1) (ℕ-discrete j i)),
-          kept-trans (q .2) (d .kept)))
+      let d = b-ok end k i (omega (arith, q .2 .size)) (q .0) (at i k .cond) refl in (
+        d .fits,
+        (λ j hj. next i k d j hj (q .1) (ℕ-discrete j i)),
+        kept-trans (q .2) (d .kept),
+      ))
       l (F, (λ j hj. omega arith), kept-refl l)
     where
       next : (i : ℕ) (k : List Task) → BDone k i (bCase end k i (at i k .cond)) → (j : ℕ) → j < suc i → ((j : ℕ) → j < i → runs (at j k) ≤ amount (at j k)) → Dec (j ≡ i)
@@ -165,12 +166,13 @@ module _ (m scale R : ℕ) where
 
     nobody-late : (l : List Task) → Fits 0 m scale R l → Alive l → sumOf late l ≡ 0 → CDone l l
     nobody-late l F A h = record {
-        stands = record {
-          fits = F; alive = A;
-          below = anywhere (λ t. amount t + waits t ≤ R) l (omega arith) (λ j hj. in-time (at j l .cond) hR (F .small j) (omega (arith, sumOf-at late l j nobody hj)))
-        };
-        kept = kept-refl l
-      }
+      stands = record {
+        fits = F;
+        alive = A;
+        below = anywhere (λ t. amount t + waits t ≤ R) l (omega arith) (λ j hj. in-time (at j l .cond) hR (F .small j) (omega (arith, sumOf-at late l j nobody hj)));
+      };
+      kept = kept-refl l;
+    }
 
     -- a critical task takes a processor: one less is late
     fewer-late : (i : ℕ) (l : List Task) → i < length l → at i l .cond ≡ waiting (amount (at i l)) → R ≤ amount (at i l) → Fits 0 m scale R l

@@ -14,7 +14,7 @@ use Rattle.ground.specs.Sums.{sumOf}
 use Rattle.ground.proofs.Tests.{of-true}
 use Rattle.rules.specs.Admission.{plain, admitVerdict}
 use Rattle.rules.specs.Calls.{arriveAnswer}
-use Rattle.rules.specs.Figures.{row, tableOf, Figures}
+use Rattle.rules.specs.Figures.{row, tableOf, listing, Figures}
 use Rattle.rules.specs.Holds.{holds}
 use Rattle.rules.specs.Reasons.{LengthOk, RowsOk}
 use Rattle.rules.specs.Scale.{scaleOf}
@@ -22,8 +22,8 @@ use Rattle.rules.specs.State.{State, at, period, tickOf}
 use Rattle.rules.specs.Table.{Row, rowsOf, shorter}
 use Rattle.rules.specs.Together.{InRange, Together}
 use Rattle.rules.proofs.Calls.{tick-of}
-use Rattle.rules.proofs.Computed.{computed}
 use Rattle.rules.proofs.Holding.{holds-says}
+use Rattle.rules.specs.Listings.{listings}
 use Rattle.rules.proofs.Reading.{row-read}
 use Rattle.rules.proofs.Refusing.{admit-exact, arrive-exact}
 use Rattle.rules.proofs.Scale.{scale-unique, share-at-most}
@@ -50,9 +50,14 @@ module _ (r : Row) (p : InRange (r .period)) (e : InRange (r .exec)) (d : InRang
   one-admitted : r .exec ≤ shorter r → admitVerdict (tableOf (r ∷ [])) 1 ≡ plain Done
   unfolding sumOf
   one-admitted h =
-      admit-exact (tableOf (r ∷ [])) 1 Done 0
-      (refl, (lit≤ tt, lit≤ tt), length-ok, rw rows-are ok, rw (rows-are, scale-one) (omega (arith, p)),
-        rw (rows-are, scale-one) (omega (arith, share-at-most (shorter r) r h)))
+      admit-exact (tableOf (r ∷ [])) 1 Done 0 (
+        refl,
+        (lit≤ tt, lit≤ tt),
+        length-ok,
+        rw rows-are ok,
+        rw (rows-are, scale-one) (omega (arith, p)),
+        rw (rows-are, scale-one) (omega (arith, share-at-most (shorter r) r h)),
+      )
     where
       ok : RowsOk (r ∷ [])
       ok = elim [ zero ↦ λ _. ((p, e, d), h) | suc j ↦ λ hj. absurd (omega arith) ]
@@ -64,25 +69,13 @@ module _ (r : Row) (p : InRange (r .period)) (e : InRange (r .exec)) (d : InRang
       (lit≤ tt, rw rows-are (lit≤ tt), (lit≤ tt, lit≤ tt), length-ok, (λ j hj. absurd (omega arith)), rw rows-are (p, e, d), rw rows-are h)
 
 pub figures : Figures
-unfolding computed
 figures = record {
-    p1-scale = refl;
-    p1-shares = refl;
-    p1 = refl;
-    p2 = refl;
-    p3-scale = refl;
-    p3 = refl;
-    p4 = refl;
-    p5 = refl;
-    p5-scale = refl;
-    p6 = refl;
-    p7 = λ p d a b c e. one-admitted (row p (min p d) d) (a, b) (omega arith, omega arith) (c, e) (omega arith);
-    p8 = λ p d a b c e h. one-refused (row p (min p d + 1) d) (a, b) (omega arith, omega arith) (c, e) (omega arith);
-    p9 = p9;
-    p10 = p10;
-    p9-met = refl;
-    p10-met = refl
-  }
+  listings = listings;
+  p7 = λ p d a b c e. one-admitted (row p (min p d) d) (a, b) (omega arith, omega arith) (c, e) (omega arith);
+  p8 = λ p d a b c e h. one-refused (row p (min p d + 1) d) (a, b) (omega arith, omega arith) (c, e) (omega arith);
+  p9 = p9;
+  p10 = p10;
+}
   where
     tick-is : (s : State) (tick : ℕ) → Together s → s.now ≡ tick * s.scale → tickOf s ≡ tick
     tick-is s tick H e = tick-of s.now s.scale tick (facts s.tasks (H .table) .scale-pos) e

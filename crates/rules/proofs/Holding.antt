@@ -48,7 +48,7 @@ table-of s a b c R e f =
       scale-is = e;
       scale-most = omega (arith, R .scale-most);
       share-is = f;
-      sum = rw (shares-sum s.scale s.tasks f, e) (R .sum)
+      sum = rw (shares-sum s.scale s.tasks f, e) (R .sum);
     }
 
 rows-of : (s : State) → Table s.m s.scale s.tasks → RowsPass s.m (rowsIn s)
@@ -57,7 +57,7 @@ rows-of s T =
     record {
       rows = λ j h. rw (row-at s.tasks j) (T .ranges j (omega arith), T .exec j (omega arith));
       scale-most = omega (arith, T .scale-most, T .scale-is);
-      sum = rw (← T .scale-is) (omega (arith, T .sum, shares-sum s.scale s.tasks (T .share-is)))
+      sum = rw (← T .scale-is) (omega (arith, T .sum, shares-sum s.scale s.tasks (T .share-is)));
     }
 
 pub table-says : (s : State) → Says (Table s.m s.scale s.tasks) (tableHolds s)
@@ -67,11 +67,11 @@ table-says s =
     says-as (tableHolds s) (λ h. table-of s (h .0) (h .1 .0) (h .1 .1 .0) (h .1 .1 .1 .0) (h .1 .1 .1 .1 .0) (h .1 .1 .1 .1 .1))
     (λ T. (T .processors, (T .size .0, (T .size .1, (rows-of s T, (T .scale-is, T .share-is))))))
     (and-says _ _ (processorsOk s.m) _ (processors-says s.m)
-      (and-says _ _ (leb 1 (length l)) _ (leb-says 1 (length l))
-        (and-says _ _ (leb (length l) 128) _ (leb-says (length l) 128)
-          (and-says _ _ (isDone (rowsVerdict s.m (rowsIn s) .answer)) _ (rows-says s.m (rowsIn s))
-            (and-says _ _ (eqb s.scale (scaleOf (rowsIn s))) (every (λ (t : Task). eqb t.share (shareOf s.scale t.row)) l) (eqb-says s.scale (scaleOf (rowsIn s)))
-              (every-says (λ (t : Task). t.share ≡ shareOf s.scale t.row) (λ (t : Task). eqb t.share (shareOf s.scale t.row)) nobody (λ t. eqb-says t.share (shareOf s.scale t.row)) l))))))
+    (and-says _ _ (leb 1 (length l)) _ (leb-says 1 (length l))
+    (and-says _ _ (leb (length l) 128) _ (leb-says (length l) 128)
+    (and-says _ _ (isDone (rowsVerdict s.m (rowsIn s) .answer)) _ (rows-says s.m (rowsIn s))
+    (and-says _ _ (eqb s.scale (scaleOf (rowsIn s))) (every (λ (t : Task). eqb t.share (shareOf s.scale t.row)) l) (eqb-says s.scale (scaleOf (rowsIn s)))
+    (every-says (λ (t : Task). t.share ≡ shareOf s.scale t.row) (λ (t : Task). eqb t.share (shareOf s.scale t.row)) nobody (λ t. eqb-says t.share (shareOf s.scale t.row)) l))))))
 
 -- CONDITIONS
 seated-says : (m : ℕ) (c : Cond) → Says ((runsOf c ≤ procOf c) × (procOf c ≤ m)) (seated m c)
@@ -90,10 +90,10 @@ off p m (waiting x) a b h = refl
 
 seats-of : (m : ℕ) (l : List Task) → ((j : ℕ) → j < length l → (runs (at j l) ≤ proc (at j l)) × (proc (at j l) ≤ m)) → ((p : ℕ) → 1 ≤ p → p < 1 + m → sumOf (on p) l ≤ 1) → Seats m l
 seats-of m l h f = record {
-    low = λ j. all j .0;
-    high = λ j. all j .1;
-    apart = λ p. by p (decLt p 1) (decLt m p)
-  }
+  low = λ j. all j .0;
+  high = λ j. all j .1;
+  apart = λ p. by p (decLt p 1) (decLt m p);
+}
   where
     all : (j : ℕ) → (runs (at j l) ≤ proc (at j l)) × (proc (at j l) ≤ m)
     all = anywhere (λ t. (runs t ≤ proc t) × (proc t ≤ m)) l (omega arith, omega arith) h
@@ -108,8 +108,8 @@ unfolding conditionsHold
 seats-says s =
     says-as (conditionsHold s) (λ h. seats-of s.m s.tasks (h .0) (h .1)) (λ S. ((λ j _. (S .low j, S .high j)), λ p _ _. S .apart p))
     (and-says _ _ (every (λ (t : Task). seated s.m t.cond) s.tasks) _
-      (every-says (λ (t : Task). (runs t ≤ proc t) × (proc t ≤ s.m)) (λ (t : Task). seated s.m t.cond) nobody (λ t. seated-says s.m t.cond) s.tasks)
-      (every-up-says (λ p. sumOf (on p) s.tasks ≤ 1) (λ p. leb (sumOf (on p) s.tasks) 1) (λ p. leb-says (sumOf (on p) s.tasks) 1) 1 s.m))
+    (every-says (λ (t : Task). (runs t ≤ proc t) × (proc t ≤ s.m)) (λ (t : Task). seated s.m t.cond) nobody (λ t. seated-says s.m t.cond) s.tasks)
+    (every-up-says (λ p. sumOf (on p) s.tasks ≤ 1) (λ p. leb (sumOf (on p) s.tasks) 1) (λ p. leb-says (sumOf (on p) s.tasks) 1) 1 s.m))
 
 -- LAST ARRIVALS
 abbrev LastOk : ℕ → ℕ → Task → Type 0
@@ -201,9 +201,9 @@ pub ceil-is : (s : State) → 0 < s.scale → Ceil s.scale s.now (ceilTick s)
 ceil-is s pos = if-by (Ceil s.scale s.now) (onTick s) (tick-says s)
     (λ h. record { reached = omega arith; first = λ t ht. le-of-mul-le-mul-right (omega arith) pos })
     (λ n. record {
-        reached = omega (arith, div-add-mod' s.now s.scale, mod-lt s.now pos);
-        first = λ t ht. let below : s.now / s.scale * s.scale < t * s.scale = strict t ht n in omega (arith, lt-of-mul-lt-mul-right s.scale below)
-      })
+      reached = omega (arith, div-add-mod' s.now s.scale, mod-lt s.now pos);
+      first = λ t ht. let below : s.now / s.scale * s.scale < t * s.scale = strict t ht n in omega (arith, lt-of-mul-lt-mul-right s.scale below);
+    })
   where
     strict : (t : ℕ) → s.now ≤ t * s.scale → ¬ (s.now / s.scale * s.scale ≡ s.now) → s.now / s.scale * s.scale < t * s.scale
     strict t ht n = go (decLt (s.now / s.scale * s.scale) (t * s.scale))
@@ -242,10 +242,10 @@ going-says s e pos =
     says-as (openHolds s e) of
     (λ G. (G .later, ((λ j _. (G .alive j, G .left j, G .below j)), (G .busy, (G .total, λ j hj. (G .due j, G .free j hj))))))
     (and-says _ _ (ltb s.now (e * s.scale)) _ (ltb-says s.now (e * s.scale))
-      (and-says _ _ (every (λ (t : Task). amountFits R t.cond) l) _ (every-says (λ (t : Task). AmountOk R t.cond) (λ (t : Task). amountFits R t.cond) nobody (λ t. amount-says R t.cond) l)
-        (and-says _ _ (idleHolds s.m l) _ (idle-says s.m l)
-          (and-says _ _ (sumHolds s.scale R l) (every (limitHolds (ceilTick s) e) l) (leb-says (sumOf amount l * s.scale) (sumOf awakeShare l * R))
-            (every-says (LimitOk s.scale s.now e) (limitHolds (ceilTick s) e) nobody (limit-says s.scale s.now (ceilTick s) e (ceil-is s pos)) l)))))
+    (and-says _ _ (every (λ (t : Task). amountFits R t.cond) l) _ (every-says (λ (t : Task). AmountOk R t.cond) (λ (t : Task). amountFits R t.cond) nobody (λ t. amount-says R t.cond) l)
+    (and-says _ _ (idleHolds s.m l) _ (idle-says s.m l)
+    (and-says _ _ (sumHolds s.scale R l) (every (limitHolds (ceilTick s) e) l) (leb-says (sumOf amount l * s.scale) (sumOf awakeShare l * R))
+    (every-says (LimitOk s.scale s.now e) (limitHolds (ceilTick s) e) nobody (limit-says s.scale s.now (ceilTick s) e (ceil-is s pos)) l)))))
   where
     of : (s.now < e * s.scale) × (((j : ℕ) → j < length s.tasks → AmountOk (e * s.scale - s.now) (at j s.tasks .cond)) × ((0 < sumOf waits s.tasks → sumOf runs s.tasks ≡ s.m)
         × ((sumOf amount s.tasks * s.scale ≤ sumOf awakeShare s.tasks * (e * s.scale - s.now)) × ((j : ℕ) → j < length s.tasks → LimitOk s.scale s.now e (at j s.tasks)))))
@@ -254,11 +254,13 @@ going-says s e pos =
         let all = anywhere (λ t. AmountOk (e * s.scale - s.now) (t.cond)) s.tasks (omega arith, omega arith, omega arith) (h .1 .0) in
         record {
           later = h .0;
-          alive = λ j. all j .0; left = λ j. all j .1; below = λ j. all j .2;
+          alive = λ j. all j .0;
+          left = λ j. all j .1;
+          below = λ j. all j .2;
           busy = h .1 .1 .0;
           total = h .1 .1 .1 .0;
           due = λ j w. h .1 .1 .1 .1 j (awake-inside s.tasks j w) .0 w;
-          free = λ j hj. h .1 .1 .1 .1 j hj .1
+          free = λ j hj. h .1 .1 .1 .1 j hj .1;
         }
 
 plane-says : (s : State) (p : Option ℕ) → 0 < s.scale → Says (Plane s p) (planeHolds s p)
@@ -276,8 +278,8 @@ holds-says s = go (tableHolds s) (table-says s)
         (λ h. record { table = T; clock = h .0; seats = h .1 .0; lasts = h .1 .1 .0; plane = h .1 .1 .1 })
         (λ H. (H .clock, (H .seats, (H .lasts, H .plane))))
         (and-says _ _ (clockHolds s) _ (leb-says s.now (4294967295 * s.scale))
-          (and-says _ _ (conditionsHold s) _ (seats-says s)
-            (and-says _ _ (lastsHold s) (planeHolds s s.plane) (lasts-says s) (plane-says s s.plane (facts s.tasks T .scale-pos)))))
+        (and-says _ _ (conditionsHold s) _ (seats-says s)
+        (and-says _ _ (lastsHold s) (planeHolds s s.plane) (lasts-says s) (plane-says s s.plane (facts s.tasks T .scale-pos)))))
     go false n = λ H. n (H .table)
 
 -- "a blank state, which never holds together"

@@ -38,19 +38,23 @@ pub record Alike (l k : List Task) : Type 0 where
 
 pub kept-alike : {l k : List Task} → Kept l k → Alike l k
 kept-alike {l} {k} K = record {
-    size = K .size;
-    row = λ j. ap (λ (c : Core). c .row) (K .same j);
-    share = λ j. ap (λ (c : Core). c .share) (K .same j);
-    arrived = λ j. ap (λ (c : Core). c .arrived) (K .same j);
-    last = λ j. ap (λ (c : Core). c .last) (K .same j);
-    awake = λ j w. sym (ap (λ (c : Core). c .awake) (K .same j)) ∙ w
-  }
+  size = K .size;
+  row = λ j. ap (λ (c : Core). c .row) (K .same j);
+  share = λ j. ap (λ (c : Core). c .share) (K .same j);
+  arrived = λ j. ap (λ (c : Core). c .arrived) (K .same j);
+  last = λ j. ap (λ (c : Core). c .last) (K .same j);
+  awake = λ j w. sym (ap (λ (c : Core). c .awake) (K .same j)) ∙ w;
+}
 
 pub alike-trans : {l k n : List Task} → Alike l k → Alike k n → Alike l n
 alike-trans a b = record {
-    size = b .size ∙ a .size; row = λ j. b .row j ∙ a .row j; share = λ j. b .share j ∙ a .share j; arrived = λ j. b .arrived j ∙ a .arrived j;
-    last = λ j. b .last j ∙ a .last j; awake = λ j w. a .awake j (b .awake j w)
-  }
+  size = b .size ∙ a .size;
+  row = λ j. b .row j ∙ a .row j;
+  share = λ j. b .share j ∙ a .share j;
+  arrived = λ j. b .arrived j ∙ a .arrived j;
+  last = λ j. b .last j ∙ a .last j;
+  awake = λ j w. a .awake j (b .awake j w);
+}
 
 rows-same : (l k : List Task) → length k ≡ length l → ((j : ℕ) → at j k .row ≡ at j l .row) → map (λ (t : Task). t.row) k ≡ map (λ (t : Task). t.row) l
 rows-same [] [] e h = refl
@@ -61,21 +65,21 @@ rows-same (x ∷ l) (y ∷ k) e h = rw (h 0, rows-same l k (omega arith) (λ j. 
 pub table-kept : {m scale : ℕ} {l k : List Task} → length k ≡ length l → ((j : ℕ) → at j k .row ≡ at j l .row) → ((j : ℕ) → at j k .share ≡ at j l .share)
     → Table m scale l → Table m scale k
 table-kept {m} {scale} {l} {k} n r s T = record {
-    processors = T .processors;
-    size = (omega (arith, T .size), omega (arith, T .size));
-    ranges = λ j h. rw (r j) (T .ranges j (omega arith));
-    exec = λ j h. rw (r j) (T .exec j (omega arith));
-    scale-is = T .scale-is ∙ ap scaleOf (sym (rows-same l k n r));
-    scale-most = T .scale-most;
-    share-is = λ j h. rw (r j, s j) (T .share-is j (omega arith));
-    sum = omega (arith, T .sum, sumOf-places (λ (t : Task). t.share) (λ (t : Task). t.share) nobody l k n s)
-  }
+  processors = T .processors;
+  size = (omega (arith, T .size), omega (arith, T .size));
+  ranges = λ j h. rw (r j) (T .ranges j (omega arith));
+  exec = λ j h. rw (r j) (T .exec j (omega arith));
+  scale-is = T .scale-is ∙ ap scaleOf (sym (rows-same l k n r));
+  scale-most = T .scale-most;
+  share-is = λ j h. rw (r j, s j) (T .share-is j (omega arith));
+  sum = omega (arith, T .sum, sumOf-places (λ (t : Task). t.share) (λ (t : Task). t.share) nobody l k n s);
+}
 
 pub lasts-kept : {scale now now′ : ℕ} {l k : List Task} → Alike l k → now ≤ now′ → Lasts scale now l → Lasts scale now′ k
 lasts-kept {scale} A h L = record {
-    known = λ j w. A .arrived j ∙ L .known j (A .awake j w);
-    came = λ j a. rw (A .last j) (omega (arith, L .came j (sym (A .arrived j) ∙ a)))
-  }
+  known = λ j w. A .arrived j ∙ L .known j (A .awake j w);
+  came = λ j a. rw (A .last j) (omega (arith, L .came j (sym (A .arrived j) ∙ a)));
+}
 
 short-kept : {l k : List Task} → Alike l k → (j : ℕ) → short (at j k) ≡ short (at j l)
 short-kept A j = ap shorter (A .row j)
@@ -100,13 +104,13 @@ module _ {m scale now e : ℕ} (l : List Task) (P : Running m scale now e l) (to
 
   advance-alike : Alike l (advance d l)
   advance-alike = record {
-      size = length-advance d l;
-      row = λ j. ap (λ (t : Task). t .row) (at-advance d j l);
-      share = λ j. ap (λ (t : Task). t .share) (at-advance d j l);
-      arrived = λ j. ap (λ (t : Task). t .arrived) (at-advance d j l);
-      last = λ j. ap (λ (t : Task). t .last) (at-advance d j l);
-      awake = λ j w. sym (ap (λ (t : Task). isAwake (t .cond)) (at-advance d j l) ∙ still-awake d (at j l .cond)) ∙ w
-    }
+    size = length-advance d l;
+    row = λ j. ap (λ (t : Task). t .row) (at-advance d j l);
+    share = λ j. ap (λ (t : Task). t .share) (at-advance d j l);
+    arrived = λ j. ap (λ (t : Task). t .arrived) (at-advance d j l);
+    last = λ j. ap (λ (t : Task). t .last) (at-advance d j l);
+    awake = λ j w. sym (ap (λ (t : Task). isAwake (t .cond)) (at-advance d j l) ∙ still-awake d (at j l .cond)) ∙ w;
+  }
 
   -- to an instant before the end
   pub record RunsOn (k : List Task) : Type 0 where
@@ -131,15 +135,17 @@ module _ {m scale now e : ℕ} (l : List Task) (P : Running m scale now e l) (to
           lasts = lasts-kept K (omega arith) (P .lasts);
           going = record {
             later = h;
-            alive = S .alive; left = S .fits .left; below = S .below;
+            alive = S .alive;
+            left = S .fits .left;
+            below = S .below;
             busy = λ w. omega (arith, S .fits .busy w);
             total = S .fits .total;
             due = λ j w. rw (K .last j, K .row j) (P .going .due j (K .awake j w));
             free = λ j hj w t ht a. rw (K .row j)
-              (P .going .free j (omega (arith, K .size)) (λ v. w (still j v)) t (omega arith) (λ b. omega (arith, a (K .arrived j ∙ b), K .last j, ap (λ (r : Row). r .period) (K .row j))))
-          }
+                (P .going .free j (omega (arith, K .size)) (λ v. w (still j v)) t (omega arith) (λ b. omega (arith, a (K .arrived j ∙ b), K .last j, ap (λ (r : Row). r .period) (K .row j))));
+          };
         };
-        same = same
+        same = same;
       }
 
 -- CLOSING
@@ -173,10 +179,10 @@ pub record Resting (m scale now : ℕ) (l : List Task) : Type 0 where
 -- nobody runs: no processor is taken
 pub idle-seats : (m : ℕ) (l : List Task) → ((j : ℕ) → runs (at j l) + waits (at j l) ≡ 0) → Seats m l
 idle-seats m l h = record {
-    low = λ j. omega (arith, h j);
-    high = λ j. omega (arith, no-proc (at j l .cond) (h j));
-    apart = λ p. omega (arith, sumOf-none (on p) nobody l (λ j hj. not-on p (at j l .cond) (h j)))
-  }
+  low = λ j. omega (arith, h j);
+  high = λ j. omega (arith, no-proc (at j l .cond) (h j));
+  apart = λ p. omega (arith, sumOf-none (on p) nobody l (λ j hj. not-on p (at j l .cond) (h j)));
+}
   where
     no-proc : (c : Cond) → runsOf c + waitsOf c ≡ 0 → procOf c ≡ 0
     no-proc asleep h = refl
@@ -197,13 +203,13 @@ closes {m} {scale} {now} {e} l P =
     let k = closed e (advance d l) in
     let t : ℕ → Task = λ j. be (spend d (at j l .cond)) (at j l) in
     let K : Alike l k = record {
-        size = length-map (advance d l) (closeTask e) ∙ length-advance d l;
-        row = λ j. rw (at-closed d e j l) (close-by e (λ u. u.row ≡ at j l .row) (t j) refl (λ _ _. refl));
-        share = λ j. rw (at-closed d e j l) (close-by e (λ u. u.share ≡ at j l .share) (t j) refl (λ _ _. refl));
-        arrived = λ j. rw (at-closed d e j l) (close-by e (λ u. u.arrived ≡ at j l .arrived) (t j) refl (λ _ _. refl));
-        last = λ j. rw (at-closed d e j l) (close-by e (λ u. u.last ≡ at j l .last) (t j) refl (λ _ _. refl));
-        awake = λ j. rw (at-closed d e j l) (close-by e (λ u. Awake u → Awake (at j l)) (t j) (not-both _) (λ w _ _. sym (still-awake d (at j l .cond)) ∙ w))
-      } in
+      size = length-map (advance d l) (closeTask e) ∙ length-advance d l;
+      row = λ j. rw (at-closed d e j l) (close-by e (λ u. u.row ≡ at j l .row) (t j) refl (λ _ _. refl));
+      share = λ j. rw (at-closed d e j l) (close-by e (λ u. u.share ≡ at j l .share) (t j) refl (λ _ _. refl));
+      arrived = λ j. rw (at-closed d e j l) (close-by e (λ u. u.arrived ≡ at j l .arrived) (t j) refl (λ _ _. refl));
+      last = λ j. rw (at-closed d e j l) (close-by e (λ u. u.last ≡ at j l .last) (t j) refl (λ _ _. refl));
+      awake = λ j. rw (at-closed d e j l) (close-by e (λ u. Awake u → Awake (at j l)) (t j) (not-both _) (λ w _ _. sym (still-awake d (at j l .cond)) ∙ w));
+    } in
     let pos = facts l (P .table) .scale-pos in
     let tick : e * scale / scale ≡ e = mul-div-cancel e pos in
     let idle : (j : ℕ) → runs (at j k) + waits (at j k) ≡ 0 = λ j. rw (at-closed d e j l) (close-by e (λ u. runs u + waits u ≡ 0) (t j) refl (λ _ _. refl)) in
@@ -215,8 +221,8 @@ closes {m} {scale} {now} {e} l P =
         whole = rw tick;
         idle = idle;
         due = λ j. rw (tick, at-closed d e j l)
-          (close-by e (λ u. Awake u → e < u.last + short u) (t j) (not-both _) (λ w n _. omega (arith, P .going .due j (sym (still-awake d (at j l .cond)) ∙ w))))
-      }
+            (close-by e (λ u. Awake u → e < u.last + short u) (t j) (not-both _) (λ w n _. omega (arith, P .going .due j (sym (still-awake d (at j l .cond)) ∙ w))));
+      };
     }
 
 -- OPENING
@@ -291,11 +297,13 @@ module _ {m scale now : ℕ} (l : List Task) (P : Resting m scale now l) where
       let share : (j : ℕ) → at j k .share ≡ at j l .share = λ j. ap (λ (c : Core). c .share) (O .same j) ∙ ready-by len (λ u. u.share ≡ at j l .share) (at j l) refl refl in
       let awake : (j : ℕ) → isAwake (at j k .cond) ≡ isAwake (at j l .cond) = λ j. ap (λ (c : Core). c .awake) (O .same j) ∙ ready-awake len (at j l) in
       let K : Alike l k = record {
-          size = O .size; row = row; share = share;
-          arrived = λ j. ap (λ (c : Core). c .arrived) (O .same j) ∙ ready-by len (λ u. u.arrived ≡ at j l .arrived) (at j l) refl refl;
-          last = λ j. ap (λ (c : Core). c .last) (O .same j) ∙ ready-by len (λ u. u.last ≡ at j l .last) (at j l) refl refl;
-          awake = λ j w. sym (awake j) ∙ w
-        } in
+        size = O .size;
+        row = row;
+        share = share;
+        arrived = λ j. ap (λ (c : Core). c .arrived) (O .same j) ∙ ready-by len (λ u. u.arrived ≡ at j l .arrived) (at j l) refl refl;
+        last = λ j. ap (λ (c : Core). c .last) (O .same j) ∙ ready-by len (λ u. u.last ≡ at j l .last) (at j l) refl refl;
+        awake = λ j w. sym (awake j) ∙ w;
+      } in
       record {
         running = record {
           table = table-kept (K .size) row share (P .table);
@@ -303,15 +311,17 @@ module _ {m scale now : ℕ} (l : List Task) (P : Resting m scale now l) where
           lasts = lasts-kept K (omega arith) (P .lasts);
           going = record {
             later = omega arith;
-            alive = S .alive; left = S .fits .left; below = S .below;
+            alive = S .alive;
+            left = S .fits .left;
+            below = S .below;
             busy = λ w. omega (arith, S .fits .busy w);
             total = S .fits .total;
             due = λ j w. rw (K .last j, K .row j)
-              (let v = K .awake j w in omega (arith, end-le tick l j (awake-inside l j v), limit-by (λ n. n ≡ at j l .last + short (at j l)) tick (at j l) (λ _. refl) (λ n. absurd (n v))));
+                (let v = K .awake j w in omega (arith, end-le tick l j (awake-inside l j v), limit-by (λ n. n ≡ at j l .last + short (at j l)) tick (at j l) (λ _. refl) (λ n. absurd (n v))));
             free = λ j hj w t ht a. rw (K .row j)
-              (let le : tick ≤ t = le-of-mul-le-mul-right (omega arith) (F .scale-pos) in
-              omega (arith, end-le tick l j (omega (arith, K .size)), limit-by (λ n. n ≡ tick + short (at j l)) tick (at j l) (λ v. absurd (w (awake j ∙ v))) (λ _. refl)))
-          }
+                (let le : tick ≤ t = le-of-mul-le-mul-right (omega arith) (F .scale-pos) in
+                omega (arith, end-le tick l j (omega (arith, K .size)), limit-by (λ n. n ≡ tick + short (at j l)) tick (at j l) (λ v. absurd (w (awake j ∙ v))) (λ _. refl)));
+          };
         };
-        same = O .same
+        same = O .same;
       }

@@ -1,4 +1,3 @@
-pub mod Computed
 pub mod Figures
 pub mod Euclid
 pub mod Scale

@@ -111,12 +111,21 @@ module _ (m len scale : ℕ) (hl : 0 < len) (hs : 0 < scale) (l : List Task) (C 
     -- an asleep task stays as it is
     skip : isAwake (at i l .cond) ≡ false → Entering js k
     skip e = record {
-        size = E .size;
-        rest = λ j h. E .rest j (still-todo j h);
-        gone = λ j h. go j h (ℕ-discrete j i);
-        small = E .small; left = E .left; alive = E .alive; low = E .low; high = E .high; apart = E .apart; free = E .free; most = E .most; busy = E .busy; heavy = E .heavy;
-        front = λ x y h. E .front x y (still-todo x h)
-      }
+      size = E .size;
+      rest = λ j h. E .rest j (still-todo j h);
+      gone = λ j h. go j h (ℕ-discrete j i);
+      small = E .small;
+      left = E .left;
+      alive = E .alive;
+      low = E .low;
+      high = E .high;
+      apart = E .apart;
+      free = E .free;
+      most = E .most;
+      busy = E .busy;
+      heavy = E .heavy;
+      front = λ x y h. E .front x y (still-todo x h);
+    }
       where
         asleep-still : (b : Bool) (t u : Task) → b ≡ false → core t ≡ core (if b then u else t)
         asleep-still true t u q = cc
@@ -172,23 +181,23 @@ module _ (m len scale : ℕ) (hl : 0 < len) (hs : 0 < scale) (l : List Task) (C 
 
       run-enters : sumOf runs k < m → Entering js (become i (running (suc (sumOf runs k)) a) k)
       run-enters h = record {
-          size = length-become k i c ∙ E .size;
-          rest = rest-after c;
-          gone = gone-after c (core-run (suc K));
-          small = all-become (λ t. amount t ≤ len * scale) k i c inside-k a-small (E .small);
-          left = all-become (λ t. waits t ≤ amount t) k i c inside-k (omega arith) (E .left);
-          alive = all-become (λ t. runs t ≤ amount t) k i c inside-k a-pos (E .alive);
-          low = all-become (λ t. runs t ≤ proc t) k i c inside-k (omega arith) (E .low);
-          high = all-become (λ t. proc t ≤ m) k i c inside-k (omega arith) (E .high);
-          apart = λ p. by-same (λ x. sumOf (on p) k′ + on p (at i k) ≡ sumOf (on p) k + x → sumOf (on p) k′ ≤ 1) (suc K) p
+        size = length-become k i c ∙ E .size;
+        rest = rest-after c;
+        gone = gone-after c (core-run (suc K));
+        small = all-become (λ t. amount t ≤ len * scale) k i c inside-k a-small (E .small);
+        left = all-become (λ t. waits t ≤ amount t) k i c inside-k (omega arith) (E .left);
+        alive = all-become (λ t. runs t ≤ amount t) k i c inside-k a-pos (E .alive);
+        low = all-become (λ t. runs t ≤ proc t) k i c inside-k (omega arith) (E .low);
+        high = all-become (λ t. proc t ≤ m) k i c inside-k (omega arith) (E .high);
+        apart = λ p. by-same (λ x. sumOf (on p) k′ + on p (at i k) ≡ sumOf (on p) k + x → sumOf (on p) k′ ≤ 1) (suc K) p
             (λ z s. omega (arith, E .free p (omega arith))) (λ z s. omega (arith, E .apart p)) (sum-become (on p) k i c inside-k);
-          free = λ p hp. by-same (λ x. sumOf (on p) k′ + on p (at i k) ≡ sumOf (on p) k + x → sumOf (on p) k′ ≡ 0) (suc K) p
+        free = λ p hp. by-same (λ x. sumOf (on p) k′ + on p (at i k) ≡ sumOf (on p) k + x → sumOf (on p) k′ ≡ 0) (suc K) p
             (λ z s. absurd (omega (arith, s-run))) (λ z s. omega (arith, E .free p (omega (arith, s-run)))) (sum-become (on p) k i c inside-k);
-          most = omega (arith, s-run);
-          busy = λ w. absurd (omega (arith, E .busy (omega (arith, s-wait))));
-          heavy = λ x y w r. absurd (nobody-waits x w);
-          front = λ x y t r. first x y t r (ℕ-discrete y i)
-        }
+        most = omega (arith, s-run);
+        busy = λ w. absurd (omega (arith, E .busy (omega (arith, s-wait))));
+        heavy = λ x y w r. absurd (nobody-waits x w);
+        front = λ x y t r. first x y t r (ℕ-discrete y i);
+      }
         where
           K : ℕ
           K = sumOf runs k
@@ -216,21 +225,21 @@ module _ (m len scale : ℕ) (hl : 0 < len) (hs : 0 < scale) (l : List Task) (C 
 
       wait-enters : m ≤ sumOf runs k → Entering js (become i (waiting a) k)
       wait-enters h = record {
-          size = length-become k i c ∙ E .size;
-          rest = rest-after c;
-          gone = gone-after c core-wait;
-          small = all-become (λ t. amount t ≤ len * scale) k i c inside-k a-small (E .small);
-          left = all-become (λ t. waits t ≤ amount t) k i c inside-k a-pos (E .left);
-          alive = all-become (λ t. runs t ≤ amount t) k i c inside-k (omega arith) (E .alive);
-          low = all-become (λ t. runs t ≤ proc t) k i c inside-k (omega arith) (E .low);
-          high = all-become (λ t. proc t ≤ m) k i c inside-k (omega arith) (E .high);
-          apart = λ p. omega (arith, E .apart p, sum-become (on p) k i c inside-k);
-          free = λ p hp. omega (arith, E .free p (omega (arith, s-run)), sum-become (on p) k i c inside-k);
-          most = omega (arith, E .most, s-run);
-          busy = λ w. omega (arith, E .most, s-run);
-          heavy = λ x y w r. heavier x y w r (ℕ-discrete x i) (ℕ-discrete y i);
-          front = λ x y t r. E .front x y (still-todo x t) (was-running y r (ℕ-discrete y i))
-        }
+        size = length-become k i c ∙ E .size;
+        rest = rest-after c;
+        gone = gone-after c core-wait;
+        small = all-become (λ t. amount t ≤ len * scale) k i c inside-k a-small (E .small);
+        left = all-become (λ t. waits t ≤ amount t) k i c inside-k a-pos (E .left);
+        alive = all-become (λ t. runs t ≤ amount t) k i c inside-k (omega arith) (E .alive);
+        low = all-become (λ t. runs t ≤ proc t) k i c inside-k (omega arith) (E .low);
+        high = all-become (λ t. proc t ≤ m) k i c inside-k (omega arith) (E .high);
+        apart = λ p. omega (arith, E .apart p, sum-become (on p) k i c inside-k);
+        free = λ p hp. omega (arith, E .free p (omega (arith, s-run)), sum-become (on p) k i c inside-k);
+        most = omega (arith, E .most, s-run);
+        busy = λ w. omega (arith, E .most, s-run);
+        heavy = λ x y w r. heavier x y w r (ℕ-discrete x i) (ℕ-discrete y i);
+        front = λ x y t r. E .front x y (still-todo x t) (was-running y r (ℕ-discrete y i));
+      }
         where
           c : Cond
           c = waiting a
@@ -266,21 +275,21 @@ module _ (m len scale : ℕ) (hl : 0 < len) (hs : 0 < scale) (l : List Task) (C 
   -- before the first enters
   nobody-yet : (order : List ℕ) → ((j : ℕ) → j < length l → times j order ≡ 1) → Entering order l
   nobody-yet order whole = record {
-      size = refl;
-      rest = λ j h. refl;
-      gone = λ j h. past j h (decLt j (length l));
-      small = λ j. omega (arith, none-left (at j l .cond) (C .idle j));
-      left = λ j. omega (arith, C .idle j);
-      alive = λ j. omega (arith, C .idle j);
-      low = λ j. omega (arith, C .idle j);
-      high = λ j. omega (arith, no-proc (at j l .cond) (C .idle j));
-      apart = λ p. omega (arith, none-on p);
-      free = λ p h. none-on p;
-      most = omega (arith, none-run);
-      busy = λ w. absurd (omega (arith, sumOf-none waits nobody l (λ j hj. omega (arith, C .idle j))));
-      heavy = λ x y w r. absurd (omega (arith, C .idle y));
-      front = λ x y t r. absurd (omega (arith, C .idle y))
-    }
+    size = refl;
+    rest = λ j h. refl;
+    gone = λ j h. past j h (decLt j (length l));
+    small = λ j. omega (arith, none-left (at j l .cond) (C .idle j));
+    left = λ j. omega (arith, C .idle j);
+    alive = λ j. omega (arith, C .idle j);
+    low = λ j. omega (arith, C .idle j);
+    high = λ j. omega (arith, no-proc (at j l .cond) (C .idle j));
+    apart = λ p. omega (arith, none-on p);
+    free = λ p h. none-on p;
+    most = omega (arith, none-run);
+    busy = λ w. absurd (omega (arith, sumOf-none waits nobody l (λ j hj. omega (arith, C .idle j))));
+    heavy = λ x y w r. absurd (omega (arith, C .idle y));
+    front = λ x y t r. absurd (omega (arith, C .idle y));
+  }
     where
       none-left : (c : Cond) → runsOf c + waitsOf c ≡ 0 → amountOf c ≡ 0
       none-left asleep h = refl
@@ -358,11 +367,15 @@ module _ (m len scale : ℕ) (hl : 0 < len) (hs : 0 < scale) (l : List Task) (C 
           let S : sumOf awakeShare k ≡ sumOf awakeShare l = sumOf-places awakeShare awakeShare nobody l k (E .size) share-kept in
           let A : sumOf amount k ≡ sumOf awakeShare l * len = sumOf-places amount (λ t. awakeShare t * len) nobody l k (E .size) left-is ∙ sumOf-scale awakeShare len l in
           record {
-            small = E .small; left = E .left; low = E .low; high = E .high; apart = E .apart;
+            small = E .small;
+            left = E .left;
+            low = E .low;
+            high = E .high;
+            apart = E .apart;
             most = omega (arith, E .most);
             busy = λ w. omega (arith, E .busy w);
             total = rw (S, A) (omega arith);
-            admit = omega (arith, C .admit)
+            admit = omega (arith, C .admit);
           }
 
       whole-share : (t : Task) → runs t + waits t ≡ 1 → awakeShare t ≡ t.share
@@ -410,7 +423,7 @@ module _ (m len scale : ℕ) (hl : 0 < len) (hs : 0 < scale) (l : List Task) (C 
           go : Dec (a < len * scale) → a + 1 ≤ len * scale
           go (yes h) = omega arith
           go (no h) = absurd (crowded (mul-le-mul hl hs) hs x k (inside waits k x refl (omega (arith, ap waitsOf e))) (rw ea e) fits (omega (arith, ea))
-            (λ y. heavier x (ap waitsOf e) (omega (arith, ea)) y (at y k .cond) refl))
+              (λ y. heavier x (ap waitsOf e) (omega (arith, ea)) y (at y k .cond) refl))
 
   -- "In falling order of share the first m run; the rest wait": the plane stands
   pub opens : Opened (openTasks m len l)

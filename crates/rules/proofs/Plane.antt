@@ -71,8 +71,15 @@ module _ {c m scale R : ℕ} where
   give-ok end p l F hp hm free nope h =
       let w : sumOf waits l ≡ 0 = sumOf-none waits nobody l (λ j hj. not-waiting end (at j l .cond) (h j)) in
       record {
-        small = F .small; left = F .left; low = F .low; high = F .high; apart = F .apart;
-        most = omega arith; busy = omega arith; total = F .total; admit = F .admit
+        small = F .small;
+        left = F .left;
+        low = F .low;
+        high = F .high;
+        apart = F .apart;
+        most = omega arith;
+        busy = omega arith;
+        total = F .total;
+        admit = F .admit;
       }
   give-ok end p l F hp hm free (best i k) h =
       let C = at i l .cond in
@@ -92,11 +99,11 @@ module _ {c m scale R : ℕ} where
         low = all-become (λ t. runs t ≤ proc t) l i n (h .0) (omega arith) (F .low);
         high = all-become (λ t. proc t ≤ m) l i n (h .0) (omega arith) (F .high);
         apart = λ p′. one-more p p′ _ (λ x. sumOf (on x) l) (eqb p p′) (eqb-says p p′) free (F .apart p′)
-          (let e-on : onOf p′ C ≡ 0 = ap (onOf p′) e in omega (arith, sum-become (on p′) l i n (h .0)));
+            (let e-on : onOf p′ C ≡ 0 = ap (onOf p′) e in omega (arith, sum-become (on p′) l i n (h .0)));
         most = omega arith;
         busy = λ w. omega (arith, F .busy (omega arith));
         total = rw (same, same-a) (F .total);
-        admit = omega (arith, F .admit)
+        admit = omega (arith, F .admit);
       }
 
   -- a running task with nothing left rests: its processor is free
@@ -110,12 +117,12 @@ module _ {c m scale R : ℕ} where
       let e-proc : proc (at i l) ≡ p = ap procOf e in
       let e-on : on p (at i l) ≡ 1 = ap (onOf p) e ∙ on-self p (eqb p p) (eqb-says p p) in
       let same : sumOf awakeShare (become i resting l) ≡ sumOf awakeShare l =
-        let e-share : awakeShare (at i l) ≡ at i l .share = ap (λ x. if isAwake x then at i l .share else 0) e in
-        omega (arith, sum-become awakeShare l i resting hi) in
+      let e-share : awakeShare (at i l) ≡ at i l .share = ap (λ x. if isAwake x then at i l .share else 0) e in
+      omega (arith, sum-become awakeShare l i resting hi) in
       let same-a : sumOf amount (become i resting l) ≡ sumOf amount l =
-        let e-amt : amount (at i l) ≡ 0 = ap amountOf e in
-        omega (arith, sum-become amount l i resting hi) in
-      ( record {
+      let e-amt : amount (at i l) ≡ 0 = ap amountOf e in
+      omega (arith, sum-become amount l i resting hi) in (
+        record {
           small = all-become (λ t. amount t ≤ R) l i resting hi (omega arith) (F .small);
           left = all-become (λ t. waits t ≤ amount t) l i resting hi (omega arith) (F .left);
           low = all-become (λ t. runs t ≤ proc t) l i resting hi (omega arith) (F .low);
@@ -124,11 +131,11 @@ module _ {c m scale R : ℕ} where
           most = omega (arith, F .most);
           busy = λ w. omega (arith, F .busy (omega arith));
           total = rw (same, same-a) (F .total);
-          admit = omega (arith, F .admit)
+          admit = omega (arith, F .admit);
         },
         omega (arith, F .apart p, sum-become (on p) l i resting hi),
         omega (arith, F .low i),
-        omega (arith, F .high i)
+        omega (arith, F .high i),
       )
 
 -- what holds between the B events and the C events, and after them
@@ -147,7 +154,7 @@ module _ {m scale R : ℕ} (hR : 0 < R) (hs : 0 < scale) where
       let k′ : sumOf runs l′ ≡ m = omega (arith, sum-become runs l i resting hi) in
       let a : sumOf amount l′ + R ≤ sumOf amount l = omega (arith, sum-become amount l i resting hi) in
       let full : m * R ≤ sumOf amount l′ = rw k′ at (rw (sumOf-scale runs R l′) at
-        (sumOf-mono (λ t. runs t * R) amount nobody l′ (λ j hj. all-become (λ t. runs t * R ≤ amount t) l i resting hi (omega arith) all j))) in
+      (sumOf-mono (λ t. runs t * R) amount nobody l′ (λ j hj. all-become (λ t. runs t * R ≤ amount t) l i resting hi (omega arith) all j))) in
       let over : m * R + R ≤ sumOf amount l = omega arith in
       omega (arith, mul-le-mul-right scale over, mul-le-mul-right R (F .admit), F .total, mul-le-mul hR hs)
 
@@ -170,7 +177,7 @@ module _ {m scale R : ℕ} (hR : 0 < R) (hs : 0 < scale) where
   pub seize-ok : (now i : ℕ) (l : List Task) → i < length l → at i l .cond ≡ waiting (amount (at i l)) → R ≤ amount (at i l) → Fits 0 m scale R l → Alive l
       → (b : Best) → IsLeast (runKey now) l b
       → Fits 0 m scale R (takeFrom i l b) × Alive (takeFrom i l b) × (waits (at i (takeFrom i l b)) ≡ 0)
-          × ((j : ℕ) → amount (at j l) + waits (at j l) ≤ R → amount (at j (takeFrom i l b)) + waits (at j (takeFrom i l b)) ≤ R)
+      × ((j : ℕ) → amount (at j l) + waits (at j l) ≤ R → amount (at j (takeFrom i l b)) + waits (at j (takeFrom i l b)) ≤ R)
   unfolding takeFrom
   seize-ok now i l hi e h F A nope L =
       absurd (crowded i l hi e F h (λ j. let z : runs (at j l) ≡ 0 = not-running now (at j l .cond) (L j) in rw z (omega arith)))
@@ -194,22 +201,22 @@ module _ {m scale R : ℕ} (hR : 0 < R) (hs : 0 < scale) where
       let s-run = sum-two runs l i j n d hi hj ne in
       let s-wait = sum-two waits l i j n d hi hj ne in
       let j-alive = A j in
-      let j-low = F .low j in
-      ( record {
+      let j-low = F .low j in (
+        record {
           small = λ x. one-two (λ t. amount t ≤ R) l i j n d hi hj ne (F .small i) (F .small j) x (F .small x);
           left = λ x. one-two (λ t. waits t ≤ amount t) l i j n d hi hj ne (omega arith) (omega arith) x (F .left x);
           low = λ x. one-two (λ t. runs t ≤ proc t) l i j n d hi hj ne (omega arith) (omega arith) x (F .low x);
           high = λ x. one-two (λ t. proc t ≤ m) l i j n d hi hj ne (F .high j) (omega arith) x (F .high x);
           apart = λ p.
-            let i-on : on p (at i l) ≡ 0 = ap (onOf p) e in
-            let j-on : on p (at j l) ≡ onOf p (running pj aj) = ap (onOf p) f in
-            omega (arith, F .apart p, sum-two (on p) l i j n d hi hj ne);
+              let i-on : on p (at i l) ≡ 0 = ap (onOf p) e in
+              let j-on : on p (at j l) ≡ onOf p (running pj aj) = ap (onOf p) f in
+              omega (arith, F .apart p, sum-two (on p) l i j n d hi hj ne);
           most = omega (arith, F .most);
           busy = λ w. omega (arith, F .busy (omega arith));
           total = rw (same, same-a) (F .total);
-          admit = omega (arith, F .admit)
+          admit = omega (arith, F .admit);
         },
         (λ x. one-two (λ t. runs t ≤ amount t) l i j n d hi hj ne (omega arith) (omega arith) x (A x)),
         rw (at-same (become j d l) i n (rw length-become hi)),
-        (λ x. one-two (λ t. amount t + waits t ≤ R) l i j n d hi hj ne (omega (arith, F .small i)) (omega arith) x)
+        (λ x. one-two (λ t. amount t + waits t ≤ R) l i j n d hi hj ne (omega (arith, F .small i)) (omega arith) x),
       )

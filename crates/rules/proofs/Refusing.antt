@@ -218,7 +218,7 @@ admit-answers bytes m = go (processorsOk m) (processors-says m) (lengthOk (lengt
 
     go : (a : Bool) → Says (ProcessorsOk m) a → (b : Bool) → Says (LengthOk (length bytes)) b
         → AdmitReason bytes m ((if a then (if b then orElse (faultFrom 1 (rowsOf bytes)) (sizeVerdict m (rowsOf bytes)) else plain TableLength) else plain Processors) .answer)
-            ((if a then (if b then orElse (faultFrom 1 (rowsOf bytes)) (sizeVerdict m (rowsOf bytes)) else plain TableLength) else plain Processors) .row)
+        ((if a then (if b then orElse (faultFrom 1 (rowsOf bytes)) (sizeVerdict m (rowsOf bytes)) else plain TableLength) else plain Processors) .row)
     go false p b q = (refl, p)
     go true p false q = (refl, p, q)
     go true p true q = rows p q (faultFrom 1 (rowsOf bytes) .answer) (faultFrom 1 (rowsOf bytes) .row) (faults-answers 0 (rowsOf bytes))
@@ -271,18 +271,33 @@ admit-exact bytes m RowExecution i h =
     let f = first-fault 1 (rowsOf bytes) (i - 1) RowExecution (omega (arith, h .0, h .1)) (λ j hj. h .4 j (omega arith)) (row-over _ (h .5) (h .6)) refl in
     rw (is-true (processorsOk m) (processors-says m) (h .2), is-true (lengthOk (length bytes)) (length-says (length bytes)) (h .3), f, e)
 admit-exact bytes m Scale i h =
-    rw (is-true (processorsOk m) (processors-says m) (h .1), is-true (lengthOk (length bytes)) (length-says (length bytes)) (h .2), no-fault 1 (rowsOf bytes) (h .3),
-      is-true (ltb 134217728 (scaleOf (rowsOf bytes))) (ltb-says 134217728 (scaleOf (rowsOf bytes))) (h .4), h .0)
+    rw (
+      is-true (processorsOk m) (processors-says m) (h .1),
+      is-true (lengthOk (length bytes)) (length-says (length bytes)) (h .2),
+      no-fault 1 (rowsOf bytes) (h .3),
+      is-true (ltb 134217728 (scaleOf (rowsOf bytes))) (ltb-says 134217728 (scaleOf (rowsOf bytes))) (h .4),
+      h .0,
+    )
 admit-exact bytes m Shares i h =
     let rs = rowsOf bytes in
-    rw (is-true (processorsOk m) (processors-says m) (h .1), is-true (lengthOk (length bytes)) (length-says (length bytes)) (h .2), no-fault 1 rs (h .3),
+    rw (
+      is-true (processorsOk m) (processors-says m) (h .1),
+      is-true (lengthOk (length bytes)) (length-says (length bytes)) (h .2),
+      no-fault 1 rs (h .3),
       is-false (ltb 134217728 (scaleOf rs)) (ltb-says 134217728 (scaleOf rs)) (λ q. omega (arith, h .4)),
-      is-false (leb (sumOf (shareOf (scaleOf rs)) rs) (m * scaleOf rs)) (leb-says (sumOf (shareOf (scaleOf rs)) rs) (m * scaleOf rs)) (λ q. omega (arith, h .5)), h .0)
+      is-false (leb (sumOf (shareOf (scaleOf rs)) rs) (m * scaleOf rs)) (leb-says (sumOf (shareOf (scaleOf rs)) rs) (m * scaleOf rs)) (λ q. omega (arith, h .5)),
+      h .0,
+    )
 admit-exact bytes m Done i h =
     let rs = rowsOf bytes in
-    rw (is-true (processorsOk m) (processors-says m) (h .1), is-true (lengthOk (length bytes)) (length-says (length bytes)) (h .2), no-fault 1 rs (h .3),
+    rw (
+      is-true (processorsOk m) (processors-says m) (h .1),
+      is-true (lengthOk (length bytes)) (length-says (length bytes)) (h .2),
+      no-fault 1 rs (h .3),
       is-false (ltb 134217728 (scaleOf rs)) (ltb-says 134217728 (scaleOf rs)) (λ q. omega (arith, h .4)),
-      is-true (leb (sumOf (shareOf (scaleOf rs)) rs) (m * scaleOf rs)) (leb-says (sumOf (shareOf (scaleOf rs)) rs) (m * scaleOf rs)) (h .5), h .0)
+      is-true (leb (sumOf (shareOf (scaleOf rs)) rs) (m * scaleOf rs)) (leb-says (sumOf (shareOf (scaleOf rs)) rs) (m * scaleOf rs)) (h .5),
+      h .0,
+    )
 admit-exact bytes m TaskNumber i h = absurd h
 admit-exact bytes m BetweenTicks i h = absurd h
 admit-exact bytes m TooSoon i h = absurd h

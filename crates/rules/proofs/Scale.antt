@@ -153,16 +153,17 @@ test-is-scale rows l h p m e =
     let k = l / s in
     let x : k * s ≡ l = div-mul-cancel s d in
     let each : (i : ℕ) → i < length rows → k ∣ l / shortAt rows i = λ i hi.
-        (let q = shortAt rows i in
-        let y : s / q * q ≡ s = div-mul-cancel q (scale-multiple rows i hi) in
-        let z : l ≡ k * (s / q) * q = omega (arith, ap (λ w. k * w) y, x) in
-        rw (div-eq-of-eq-mul-left (h i hi) z) (dvd-mul-right k (s / q))) in
+    (let q = shortAt rows i in
+    let y : s / q * q ≡ s = div-mul-cancel q (scale-multiple rows i hi) in
+    let z : l ≡ k * (s / q) * q = omega (arith, ap (λ w. k * w) y, x) in
+    rw (div-eq-of-eq-mul-left (h i hi) z) (dvd-mul-right k (s / q))) in
     let base : k ∣ l = subst (λ (w : ℕ). k ∣ w) x (dvd-mul-right k s) in
     let one : k ≡ 1 = eq-one-of-dvd-one (rw e at (common-greatest l l rows k base each)) in
     omega (arith, ap (λ w. w * s) one, x)
 
 -- L is the scale exactly when every q divides it and the greatest common divisor of all L/q is 1
 pub scale-test : (rows : List Row) (l : ℕ) → Positive rows → 0 < l → (l ≡ scaleOf rows) ↔ (Multiple rows l × (commonFrom l l rows ≡ 1))
-scale-test rows l h p =
-    ( λ e. rw e (scale-multiple rows, scale-passes rows h),
-      λ t. test-is-scale rows l h p (t .0) (t .1))
+scale-test rows l h p = (
+  λ e. rw e (scale-multiple rows, scale-passes rows h),
+  λ t. test-is-scale rows l h p (t .0) (t .1),
+)

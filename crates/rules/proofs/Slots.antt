@@ -87,4 +87,4 @@ slots-ok {m = m} l F j =
     let first : List ℕ = map (λ p. onProc p 1 l) (upFrom 1 m) in
     sumOf-append (same (suc j)) first (replicate (16 - m) 0)
     ∙ (let a : times (suc j) first ≡ runs (at j l) = slots-from l j (F .apart) 1 m (omega arith) ∙ on-all m (at j l .cond) (F .low j) (F .high j) in
-      omega (arith, a, times-zeros j (16 - m)))
+    omega (arith, a, times-zeros j (16 - m)))

@@ -37,14 +37,14 @@ row-at l j = List·getD-map (λ (t : Task). t.row) l j nobody
 
 pub facts : {m scale : ℕ} (l : List Task) → Table m scale l → Facts m scale l
 facts {m} {scale} l T = record {
-    scale-pos = pos;
-    size = omega (arith, T .size);
-    most = λ j. most j (decLt j (length l));
-    some-share = λ j hj. rw (T .share-is j hj) (share-positive scale (at j l .row) pos (divides j hj) (omega (arith, T .ranges j hj)));
-    some-q = some-q;
-    exact = λ j hj. ap (λ x. x * short (at j l)) (T .share-is j hj) ∙ share-exact scale (at j l .row) (divides j hj);
-    admit = T .sum
-  }
+  scale-pos = pos;
+  size = omega (arith, T .size);
+  most = λ j. most j (decLt j (length l));
+  some-share = λ j hj. rw (T .share-is j hj) (share-positive scale (at j l .row) pos (divides j hj) (omega (arith, T .ranges j hj)));
+  some-q = some-q;
+  exact = λ j hj. ap (λ x. x * short (at j l)) (T .share-is j hj) ∙ share-exact scale (at j l .row) (divides j hj);
+  admit = T .sum;
+}
   where
     some-q : (j : ℕ) → j < length l → 0 < short (at j l)
     some-q j hj = let r = T .ranges j hj in let a = r .0 .0 in let b = r .2 .0 in omega arith
@@ -99,15 +99,20 @@ few-run m l S =
 
 pub going-stands : {m scale now e : ℕ} (l : List Task) → Facts m scale l → Seats m l → Going m scale now e l → Stands m scale (e * scale - now) l
 going-stands {m} {scale} {now} {e} l T S G = record {
-    fits = record {
-      small = λ i. omega (arith, G .below i);
-      left = G .left; low = S .low; high = S .high; apart = S .apart;
-      most = omega (arith, few-run m l S); busy = λ w. omega (arith, G .busy w);
-      total = G .total; admit = awake-fits l T
-    };
-    alive = G .alive;
-    below = G .below
-  }
+  fits = record {
+    small = λ i. omega (arith, G .below i);
+    left = G .left;
+    low = S .low;
+    high = S .high;
+    apart = S .apart;
+    most = omega (arith, few-run m l S);
+    busy = λ w. omega (arith, G .busy w);
+    total = G .total;
+    admit = awake-fits l T;
+  };
+  alive = G .alive;
+  below = G .below;
+}
 
 pub shut-closed : {m scale now : ℕ} (l : List Task) → Facts m scale l → Shut scale now l → Closed m scale l
 shut-closed l T S = record { idle = S .idle; most = T .most; some-share = λ j w. T .some-share j (awake-inside l j w); admit = awake-fits l T }

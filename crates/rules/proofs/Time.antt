@@ -132,7 +132,7 @@ module _ {m scale R : ℕ} (l : List Task) (F : Fits 0 m scale R l) (d : ℕ) (r
         most = omega (arith, F .most);
         busy = λ w. omega (arith, F .busy (omega arith));
         total = rw (S, A′) (key (sumOf amount l) scale (sumOf awakeShare l) R (sumOf runs l) d m (room .end) (omega arith) (F .total) (cases (decLt 0 (sumOf waits l))));
-        admit = omega (arith, F .admit)
+        admit = omega (arith, F .admit);
       }
 
 -- THE NEXT INSTANT
@@ -172,9 +172,9 @@ next-ok {R = R} end now stop l S hR he hn =
     let a : to ≤ n = or-le rb n in
     let b : n ≤ min end stop = or-le wb (min end stop) in
     let moves : now < to = or-above (runKey now) l rb rl n now
-      (or-above (waitKey end) l wb wl (min end stop) now (omega arith)
-        (λ j k e. let w = is-waiting end (at j l .cond) k e in omega (arith, S .below j, w .1, ap waitsOf (w .0))))
-      (λ j k e. let r = is-running now (at j l .cond) k e in omega (arith, S .alive j, r .1, ap runsOf (r .0))) in
+    (or-above (waitKey end) l wb wl (min end stop) now (omega arith)
+    (λ j k e. let w = is-waiting end (at j l .cond) k e in omega (arith, S .below j, w .1, ap waitsOf (w .0))))
+    (λ j k e. let r = is-running now (at j l .cond) k e in omega (arith, S .alive j, r .1, ap runsOf (r .0))) in
     record {
       moves = moves;
       by-end = omega arith;
@@ -182,8 +182,8 @@ next-ok {R = R} end now stop l S hR he hn =
       room = record {
         end = omega arith;
         run = λ j. run to j (λ k e. or-key (runKey now) l rb rl n j k e) (at j l .cond) refl;
-        wait = λ j. wait to moves j (S .fits .small j) (λ k e. omega (arith, or-key (waitKey end) l wb wl (min end stop) j k e)) (at j l .cond) refl
-      }
+        wait = λ j. wait to moves j (S .fits .small j) (λ k e. omega (arith, or-key (waitKey end) l wb wl (min end stop) j k e)) (at j l .cond) refl;
+      };
     }
   where
     run : (to j : ℕ) → ((k : ℕ) → runKey now (at j l) ≡ some k → to ≤ k) → (c : Cond) → at j l .cond ≡ c → runsOf c * (to - now) ≤ amountOf c

@@ -111,5 +111,5 @@ step s horizon room =
     record {
       answer = a;
       state = if isDone a then x .state else s;
-      room = if isDone a then recordBytes (x .rec) ++ drop 48 room else room
+      room = if isDone a then recordBytes (x .rec) ++ drop 48 room else room;
     }

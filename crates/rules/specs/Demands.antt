@@ -47,6 +47,6 @@ pub record Served (t : Task) (j : ℕ) (after : State) (rs : List Record) : Type
 abbrev pub Demand3 : Type 0
 Demand3 = (bytes : List ℕ) (m : ℕ) → admit bytes m .answer ≡ Done → (calls : List Call) (horizon : ℕ) (room : List ℕ)
     → (step (runOf bytes m calls .state) horizon room .answer ≡ Done
-        → (j : ℕ) → Awake (at j (opened (runOf bytes m calls .state) .tasks))
-        → Served (at j (opened (runOf bytes m calls .state) .tasks)) j (step (runOf bytes m calls .state) horizon room .state) (perform (runOf bytes m calls) (stepCall horizon room) .records))
+    → (j : ℕ) → Awake (at j (opened (runOf bytes m calls .state) .tasks))
+    → Served (at j (opened (runOf bytes m calls .state) .tasks)) j (step (runOf bytes m calls .state) horizon room .state) (perform (runOf bytes m calls) (stepCall horizon room) .records))
     × Once (runOf bytes m calls .records)

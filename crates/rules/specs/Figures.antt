@@ -1,6 +1,7 @@
 -- FIGURES TO CHECK AGAINST: P1 to P10 of document 01
 use mathlib.Core.Path.{_≡_}
 use mathlib.Core.Bool.{Bool, true}
+use mathlib.Core.Option.{Option, some}
 use mathlib.Core.List.{List, [], _∷_, _++_, map}
 use Prim.Native.Nat.{ℕ, _+_, _*_, _-_, _≤_, _<_, min}
 use lib.ListN.{length, take, replicate}
@@ -45,21 +46,37 @@ sharesIn rows m = map (λ (t : Task). t.share) (admit (tableOf rows) m .state .t
 abbrev pub tableP1 : List Row
 tableP1 = row 4 3 4 ∷ row 6 4 6 ∷ row 3 1 3 ∷ row 4 1 4 ∷ []
 
--- the last step of each list of calls finds the present at the horizon, is refused, and leaves no record
-pub record Figures : Type 0 where
+-- the figures with numbers: each holds by computation. The last step of each list of calls finds the present at the
+-- horizon, is refused, and leaves no record
+pub record Listings : Type 0 where
   pub p1-scale : scaleIn tableP1 2 ≡ 12
   pub p1-shares : sharesIn tableP1 2 ≡ 9 ∷ 8 ∷ 4 ∷ 3 ∷ []
   pub p1 : listing tableP1 2 (arriveCall 1 ∷ arriveCall 2 ∷ arriveCall 3 ∷ arriveCall 4 ∷ towards 3 ∷ towards 3 ∷ towards 3 ∷ towards 3 ∷ [])
+      ≡ line 0 24 (1 ∷ 2 ∷ []) ∷ line 24 27 (1 ∷ 3 ∷ []) ∷ line 27 36 (4 ∷ 3 ∷ []) ∷ []
+  -- "all arrivals called at that tick belong to it": in whatever order
+  pub p1-turned : listing tableP1 2 (arriveCall 4 ∷ arriveCall 3 ∷ arriveCall 2 ∷ arriveCall 1 ∷ towards 3 ∷ towards 3 ∷ towards 3 ∷ towards 3 ∷ [])
       ≡ line 0 24 (1 ∷ 2 ∷ []) ∷ line 24 27 (1 ∷ 3 ∷ []) ∷ line 27 36 (4 ∷ 3 ∷ []) ∷ []
   pub p2 : admitVerdict (tableOf (tableP1 ++ (row 12 1 12 ∷ []))) 2 ≡ plain Shares
   pub p3-scale : scaleIn (row 4 2 4 ∷ row 8 4 8 ∷ []) 1 ≡ 8
   pub p3 : listing (row 4 2 4 ∷ row 8 4 8 ∷ []) 1 (arriveCall 1 ∷ towards 1 ∷ towards 1 ∷ arriveCall 2 ∷ towards 4 ∷ towards 4 ∷ towards 4 ∷ towards 4 ∷ [])
       ≡ line 0 8 (1 ∷ []) ∷ line 8 16 (1 ∷ []) ∷ line 16 28 (2 ∷ []) ∷ line 28 32 (0 ∷ []) ∷ []
+  pub p3-end : runOf (tableOf (row 4 2 4 ∷ row 8 4 8 ∷ [])) 1 (arriveCall 1 ∷ towards 1 ∷ []) .state .plane ≡ some 4
+  pub p4-end : runOf (tableOf (row 4 2 4 ∷ row 4 2 4 ∷ row 3 3 3 ∷ [])) 2 (arriveCall 1 ∷ arriveCall 2 ∷ towards 1 ∷ []) .state .plane ≡ some 3
   pub p4 : listing (row 4 2 4 ∷ row 4 2 4 ∷ row 3 3 3 ∷ []) 2 (arriveCall 1 ∷ arriveCall 2 ∷ towards 1 ∷ towards 1 ∷ arriveCall 3 ∷ towards 3 ∷ towards 3 ∷ towards 3 ∷ towards 3 ∷ [])
       ≡ line 0 12 (1 ∷ 2 ∷ []) ∷ line 12 18 (3 ∷ 2 ∷ []) ∷ line 18 24 (3 ∷ 1 ∷ []) ∷ line 24 36 (3 ∷ 0 ∷ []) ∷ []
   pub p5 : admitVerdict (tableOf (row 1048576 1 1048576 ∷ row 127 1 127 ∷ [])) 1 ≡ plain Done
   pub p5-scale : scaleIn (row 1048576 1 1048576 ∷ row 127 1 127 ∷ []) 1 ≡ 133169152
   pub p6 : admitVerdict (tableOf (row 1048576 1 1048576 ∷ row 129 1 129 ∷ [])) 1 ≡ plain Scale
+  -- "with rows 10 5 10 and 2 1 2, task 2's deadline falls inside": the plane ends at 2, task 2 asleep
+  pub asleep-counts : runOf (tableOf (row 10 5 10 ∷ row 2 1 2 ∷ [])) 1 (arriveCall 1 ∷ towards 1 ∷ []) .state .plane ≡ some 2
+  -- and such states are met: one row, p = 4, arrivals 4 and 3 ticks apart
+  pub p9-met : arriveAnswer (runOf (tableOf (row 4 2 4 ∷ [])) 1 (arriveCall 1 ∷ towards 4 ∷ towards 4 ∷ []) .state) 1 ≡ Done
+  pub p10-met : arriveAnswer (runOf (tableOf (row 4 2 4 ∷ [])) 1 (arriveCall 1 ∷ towards 3 ∷ towards 3 ∷ []) .state) 1 ≡ TooSoon
+  pub p8-met : admitVerdict (tableOf (row 4 5 4 ∷ [])) 1 ≡ record { answer = RowExecution; row = 1 }
+
+-- P1 to P10
+pub record Figures : Type 0 where
+  pub listings : Listings
   -- for every p and D of the range
   pub p7 : (p d : ℕ) → 1 ≤ p → p ≤ 1048576 → 1 ≤ d → d ≤ 1048576 → admitVerdict (tableOf (row p (min p d) d ∷ [])) 1 ≡ plain Done
   pub p8 : (p d : ℕ) → 1 ≤ p → p ≤ 1048576 → 1 ≤ d → d ≤ 1048576 → min p d < 1048576
@@ -69,6 +86,3 @@ pub record Figures : Type 0 where
       → at (task - 1) s.tasks .last + period (at (task - 1) s.tasks) ≡ tick → arriveAnswer s task ≡ Done
   pub p10 : (s : State) (task tick : ℕ) → holds s ≡ true → 1 ≤ task → task ≤ length s.tasks → s.now ≡ tick * s.scale → at (task - 1) s.tasks .arrived ≡ true
       → at (task - 1) s.tasks .last + (period (at (task - 1) s.tasks) - 1) ≡ tick → arriveAnswer s task ≡ TooSoon
-  -- and such states are met: one row, p = 4, arrivals 4 and 3 ticks apart
-  pub p9-met : arriveAnswer (runOf (tableOf (row 4 2 4 ∷ [])) 1 (arriveCall 1 ∷ towards 4 ∷ towards 4 ∷ []) .state) 1 ≡ Done
-  pub p10-met : arriveAnswer (runOf (tableOf (row 4 2 4 ∷ [])) 1 (arriveCall 1 ∷ towards 3 ∷ towards 3 ∷ []) .state) 1 ≡ TooSoon

@@ -14,3 +14,5 @@ pub mod Reasons
 pub mod Run
 pub mod Demands
 pub mod Figures
+pub mod Computed
+pub mod Listings

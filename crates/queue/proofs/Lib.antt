@@ -1,0 +1,11 @@
+pub mod Below
+pub mod Walks
+pub mod HeapLaws
+pub mod Order
+pub mod Entries
+pub mod Loops
+pub mod Standing
+pub mod Finding
+pub mod Keys
+pub mod Places
+pub mod Room

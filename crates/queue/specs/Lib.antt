@@ -1,0 +1,4 @@
+pub mod Below
+pub mod Heap
+pub mod Queues
+pub mod Lent

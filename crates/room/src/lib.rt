@@ -1,0 +1,73 @@
+// A record's 48 bytes, written into lent room.
+ghost use mathlib.Core.Path.{_≡_};
+ghost use mathlib.Core.List.{List, _++_};
+ghost use Prim.Native.Nat.{ℕ, _+_, _≤_};
+ghost use lib.ListN.{length, take, drop};
+ghost use Rattle.ground.specs.Bytes.{le};
+ghost use Rattle.rules.specs.Record.{slotBytes, recordBytes};
+ghost use Rattle.room.specs.Pasted.{pasted};
+use ground::Instant;
+
+// A slot: two bytes, least first.
+fn put16(room: &mut [u8], at: usize, x: u16)
+    requires fits { ⌜ at + 2 ≤ length (now room) ⌝ }
+    ensures is { λ _. ⌜ now (room .exit) ≡ pasted (now (room .entry)) at (le 2 x) ⌝ }
+{
+    room[at] = (x % 256) as u8;
+    room[at + 1] = (x / 256 % 256) as u8;
+}
+
+// An instant: eight bytes, least first.
+fn put64(room: &mut [u8], at: usize, x: u64)
+    requires fits { ⌜ at + 8 ≤ length (now room) ⌝ }
+    ensures is { λ _. ⌜ now (room .exit) ≡ pasted (now (room .entry)) at (le 8 x) ⌝ }
+{
+    let mut i: usize = 0;
+    let mut y = x;
+    while i < 8 {
+        room[at + i] = (y % 256) as u8;
+        y = y / 256;
+        i += 1;
+    }
+}
+
+// From and to.
+fn put_head(room: &mut [u8], from: u64, to: u64)
+    requires fits { ⌜ 16 ≤ length (now room) ⌝ }
+    ensures is { λ _. ⌜ now (room .exit) ≡ le 8 from ++ le 8 to ++ drop 16 (now (room .entry)) ⌝ }
+{
+    put64(room, 0, from);
+    put64(room, 8, to);
+}
+
+// An array taken as a slice: nothing is done, and the proofs learn its length.
+fn touch(_slots: &[u16]) {}
+
+// There are sixteen.
+fn measure(slots: &[u16; 16])
+    ensures is { λ _. ⌜ length (now (slots .entry)) ≡ 16 ⌝ }
+{
+    touch(slots);
+}
+
+// The sixteen slots.
+fn put_slots(room: &mut [u8], slots: &[u16; 16])
+    requires fits { ⌜ 48 ≤ length (now room) ⌝ }
+    ensures is { λ _. ⌜ now (room .exit) ≡ take 16 (now (room .entry)) ++ slotBytes (now (slots .entry)) ++ drop 48 (now (room .entry)) ⌝ }
+{
+    measure(slots);
+    let mut k: usize = 0;
+    while k < 16 {
+        put16(room, 16 + 2 * k, slots[k]);
+        k += 1;
+    }
+}
+
+// A record; the bytes of the room after the 48th are unchanged.
+pub fn write(room: &mut [u8], from: Instant, to: Instant, slots: &[u16; 16])
+    requires fits { ⌜ 48 ≤ length (now room) ⌝ }
+    ensures is { λ _. ⌜ now (room .exit) ≡ recordBytes (record { from = from .0; to = to .0; slots = now (slots .entry) }) ++ drop 48 (now (room .entry)) ⌝ }
+{
+    put_head(room, from.0, to.0);
+    put_slots(room, slots);
+}

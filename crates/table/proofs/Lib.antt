@@ -1,0 +1,10 @@
+pub mod Bytes
+pub mod Columns
+pub mod Faults
+pub mod Scales
+pub mod Order
+pub mod Padding
+pub mod Sizes
+pub mod Tables
+pub mod Reading
+pub mod Admitted
