@@ -73,6 +73,7 @@ Sound s = Tidy (s .table .count) (s .jobs .awake) (workOf s)
 
 -- what the types say: each array has its places
 pub record Sized (s : State) : Type 0 where
+  pub order : length (s .table .order) ≡ 128
   pub awake : length (s .jobs .awake) ≡ 128
   pub arrived : length (s .jobs .arrived) ≡ 128
   pub last : length (s .jobs .last) ≡ 128

@@ -51,7 +51,7 @@ pub record Passes (m : ℕ) (rs : List Row) : Type 0 where
   pub scale-most : scaleOf rs ≤ 134217728
   pub sum : sumOf (shareOf (scaleOf rs)) rs ≤ m * scaleOf rs
 
-at-fresh : (l : ℕ) (rs : List Row) (j : ℕ) → j < length rs → at j (map (fresh l) rs) ≡ fresh l (getD rs j noRow)
+pub at-fresh : (l : ℕ) (rs : List Row) (j : ℕ) → j < length rs → at j (map (fresh l) rs) ≡ fresh l (getD rs j noRow)
 at-fresh l [] j h = absurd (omega arith)
 at-fresh l (r ∷ rs) zero h = refl
 at-fresh l (r ∷ rs) (suc j) h = at-fresh l rs j (omega arith)
@@ -336,7 +336,7 @@ arrive-good r G task d =
     })
 
 -- done, or refused
-by-answer : (P : Type 0) (a : Answer) → (a ≡ Done → P) → (isDone a ≡ false → P) → P
+pub by-answer : (P : Type 0) (a : Answer) → (a ≡ Done → P) → (isDone a ≡ false → P) → P
 by-answer P Done f g = f refl
 by-answer P Processors f g = g refl
 by-answer P TableLength f g = g refl

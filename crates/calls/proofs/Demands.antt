@@ -1,0 +1,209 @@
+-- The three demands hold of the calls
+use mathlib.Core.Path.{_≡_, refl, sym, _∙_, ap, subst}
+use mathlib.Core.Bool.{Bool, true, false, not}
+use mathlib.Core.Logic.{_⊎_, inl, inr}
+use mathlib.Core.List.{List, [], _∷_, _++_}
+use Prim.Native.Nat.{ℕ, zero, suc, _+_, _*_, _-_, _/_, _≤_, _<_}
+use native.Mathlib.Omega.{arith}
+use lib.Dec.{leb, ltb, eqb}
+use lib.ListN.{length, drop, length-replicate}
+use Rattle.rules.specs.declared.Answer.{Answer}
+use Rattle.rules.specs.declared.Answer.the-variants.{Done, Processors, TableLength, RowRange, RowExecution, Scale, Shares, TaskNumber, BetweenTicks, TooSoon, HorizonPastClock, HorizonNotLater, RoomTooShort, NotTogether, TextForm}
+use Rattle.plane.specs.declared.State.{State}
+use Rattle.rules.specs.State as Rules
+use Rattle.rules.specs.Run as Rule
+use Rattle.calls.specs.Demands as Say
+use Rattle.calls.specs.Run as Runs
+use Rattle.calls.proofs.Refining as Refines
+use Rattle.ground.specs.Tests.{if_then_else_}
+use Rattle.rules.specs.Admission.{admitVerdict, admit}
+use Rattle.rules.specs.Answers.{numberOf, isDone}
+use Rattle.rules.specs.Reasons.{AdmitReason, StepReason}
+use Rattle.rules.specs.Record.{recordBytes}
+use Rattle.rules.specs.Table.{rowsOf}
+use Rattle.rules.proofs.Demands.{Good, by-answer, admit-passes, run-of-good}
+use Rattle.rules.proofs.Keeping.{not-both}
+use Rattle.rules.proofs.Refusing.{step-answers, admit-answers}
+use Rattle.table.specs.Tabled.{tableFrom, blankTable, tabledOf}
+use Rattle.table.proofs.Admitted.{tabled-refused, tabled-done}
+use Rattle.plane.specs.Machine.{tickAt, movedOf, arrivedOf}
+use Rattle.plane.specs.View.{view, Sized}
+use Rattle.holding.specs.Holds.{holdsOf}
+use Rattle.whole.specs.Fresh.{freshState}
+use Rattle.whole.specs.Whole.{Whole}
+use Rattle.whole.proofs.Fresh.{fresh-view, fresh-sound, fresh-whole}
+use Rattle.whole.proofs.Keeping.{sized-by}
+use Rattle.calls.specs.Admit.{blankState, admitOf}
+use Rattle.calls.specs.Arrive.{taskIn, wholeTick, soonAgain, arriveAnswerOf, arriveOf}
+use Rattle.calls.specs.Demands.{Calls, OneOf, callingAll}
+use Rattle.calls.specs.Run.{runOf, runRoom}
+use Rattle.calls.specs.Step.{movesAnswer, stepAnswerOf, stepOf, stepRoom}
+use Rattle.calls.proofs.Refining.{arrives, holds-whole, whole-holds, step-same}
+use Rattle.calls.proofs.Runs.{run-steps}
+use Rattle.calls.proofs.Serving.{calls-together, serves}
+
+-- DONE OR NOT
+not-done : (a : Answer) → ¬ (a ≡ Done) → isDone a ≡ false
+not-done a n = by-answer _ a (λ e. absurd (n e)) (λ e. e)
+
+-- ADMIT
+admit-state : (bytes : List ℕ) (m : ℕ) → admitOf bytes m .answer ≡ Done → admitOf bytes m .state ≡ freshState (tableFrom m (rowsOf bytes))
+unfolding admitOf tabledOf
+admit-state bytes m d = ap freshState (tabled-done bytes m (ap isDone d))
+
+rules-state : (bytes : List ℕ) (m : ℕ) → admit bytes m .answer ≡ Done → admit bytes m .state ≡ Rules.admitted m (rowsOf bytes)
+unfolding admit
+rules-state bytes m d = ap (λ (a : Answer). if isDone a then Rules.admitted m (rowsOf bytes) else Rules.blank) d
+
+answer-same : (bytes : List ℕ) (m : ℕ) → (admitOf bytes m .answer ≡ admit bytes m .answer) × (admitOf bytes m .row ≡ admit bytes m .row)
+unfolding admitOf tabledOf admit
+answer-same bytes m = (refl, refl)
+
+pub admit-whole : (bytes : List ℕ) (m : ℕ) → admitOf bytes m .answer ≡ Done → Whole (admitOf bytes m .state) × (view (admitOf bytes m .state) ≡ admit bytes m .state)
+admit-whole bytes m d =
+    let r : admit bytes m .answer ≡ Done = sym (answer-same bytes m .0) ∙ d in
+    let P = admit-passes bytes m r in
+    let e = admit-state bytes m d in
+    (subst Whole (sym e) (fresh-whole m (rowsOf bytes) P), ap view e ∙ fresh-view m (rowsOf bytes) ∙ sym (rules-state bytes m r))
+
+pub admits : (bytes : List ℕ) (m : ℕ) → Say.Admits bytes m
+admits bytes m = record {
+  answer = answer-same bytes m .0;
+  row = answer-same bytes m .1;
+  state = λ d. let w = admit-whole bytes m d in (w .1, whole-holds (admitOf bytes m .state) (w .0));
+}
+
+-- DEMAND 3
+pub demand-3 : Say.Demand3
+demand-3 bytes m d cs =
+    let w = admit-whole bytes m d in
+    let r : admit bytes m .answer ≡ Done = sym (answer-same bytes m .0) ∙ d in
+    let start : Calls = record { state = admitOf bytes m .state; records = [] } in
+    let T = calls-together cs start (Rule.starting (admit bytes m .state)) (record { whole = w .0; same = w .1; records = refl }) in
+    let G = subst Good (run-is bytes m cs) (run-of-good bytes m r cs) in
+    serves (callingAll start cs) (Rule.perform-all (Rule.starting (admit bytes m .state)) cs) T G
+  where
+    run-is : (bytes : List ℕ) (m : ℕ) (cs : List Rule.Call) → Rule.runOf bytes m cs ≡ Rule.perform-all (Rule.starting (admit bytes m .state)) cs
+    run-is bytes m cs = unfold Rule.runOf in refl
+
+-- DEMAND 2
+-- 13, and nothing else, where the state does not hold together
+arrive-13 : (s : State) (task : ℕ) → holdsOf s ≡ false → arriveOf s task .answer ≡ NotTogether
+unfolding arriveOf arriveAnswerOf
+arrive-13 s task e = rw e
+
+moves-13 : (s : State) (h n : ℕ) → holdsOf s ≡ false → stepAnswerOf s h n ≡ NotTogether
+unfolding stepAnswerOf
+moves-13 s h n e = rw e
+
+step-13 : (s : State) (h n : ℕ) → holdsOf s ≡ false → stepOf s h n .answer ≡ NotTogether
+unfolding stepOf
+step-13 s h n e = moves-13 s h n e
+
+run-is-steps : (s : State) (h : ℕ) (room : List ℕ) → Sized s → runOf s h (length room) .answer ≡ Done
+    → (runOf s h (length room) .state ≡ Runs.steps (length room / 48) h s .state) × (runOf s h (length room) .records ≡ Runs.steps (length room / 48) h s .records)
+    × (runRoom s h room ≡ Runs.steps (length room / 48) h s .bytes ++ drop (length (Runs.steps (length room / 48) h s .bytes)) room)
+unfolding runOf runRoom
+run-is-steps s h room z d =
+    let W = whole-of s h (length room) z d in
+    let R = subst (StepReason (view s) h (length room)) (sym (step-same s h (length room) W) ∙ d) (step-answers (view s) h (length room)) in
+    let e = run-steps (length room / 48) h s W (R .2) in
+    (rw (d, e), rw (d, e), rw (d, e))
+  where
+    whole-of : (s : State) (h n : ℕ) → Sized s → stepAnswerOf s h n ≡ Done → Whole s
+    whole-of s h n z d = go (holdsOf s) refl
+      where
+        go : (b : Bool) → holdsOf s ≡ b → Whole s
+        go true e = holds-whole s z e
+        go false e = let q : NotTogether ≡ Done = sym (moves-13 s h n e) ∙ d in not-both _ (ap isDone q)
+
+pub demand-2 : Say.Demand2
+demand-2 = record {
+  admits = admits;
+  arrives = λ s task z. (arrives s task z, arrive-13 s task);
+  steps = λ s h room z. (Refines.steps s h room z, step-13 s h (length room));
+  runs = run-is-steps;
+}
+
+-- DEMAND 1
+arrive-listed : (s : State) (task : ℕ) → OneOf (numberOf (arriveOf s task .answer)) (0 ∷ 7 ∷ 8 ∷ 9 ∷ 13 ∷ [])
+unfolding arriveOf arriveAnswerOf
+arrive-listed s task = go (holdsOf s) (taskIn (s .table .count) task) (wholeTick (s .table .scale) (s .now .0)) (soonAgain (tickAt s) (s .table .period) (s .jobs .arrived) (s .jobs .last) (task - 1))
+  where
+    go : (a b c d : Bool) → OneOf (numberOf (if a then (if not b then TaskNumber else (if not c then BetweenTicks else (if d then TooSoon else Done))) else NotTogether)) (0 ∷ 7 ∷ 8 ∷ 9 ∷ 13 ∷ [])
+    go false b c d = inr (inr (inr (inr (inl refl))))
+    go true false c d = inr (inl refl)
+    go true true false d = inr (inr (inl refl))
+    go true true true true = inr (inr (inr (inl refl)))
+    go true true true false = inl refl
+
+step-listed : (s : State) (h n : ℕ) → OneOf (numberOf (stepAnswerOf s h n)) (0 ∷ 10 ∷ 11 ∷ 12 ∷ 13 ∷ [])
+unfolding stepAnswerOf movesAnswer
+step-listed s h n = go (holdsOf s) (ltb n 48) (ltb 4294967295 h) (leb (h * s .table .scale) (s .now .0))
+  where
+    go : (a b c d : Bool) → OneOf (numberOf (if a then (if b then RoomTooShort else (if c then HorizonPastClock else (if d then HorizonNotLater else Done))) else NotTogether)) (0 ∷ 10 ∷ 11 ∷ 12 ∷ 13 ∷ [])
+    go false b c d = inr (inr (inr (inr (inl refl))))
+    go true true c d = inr (inr (inr (inl refl)))
+    go true false true d = inr (inl refl)
+    go true false false true = inr (inr (inl refl))
+    go true false false false = inl refl
+
+admit-listed : (bytes : List ℕ) (m : ℕ) → OneOf (numberOf (admit bytes m .answer)) (0 ∷ 1 ∷ 2 ∷ 3 ∷ 4 ∷ 5 ∷ 6 ∷ [])
+unfolding admit
+admit-listed bytes m = go (admitVerdict bytes m .answer) (admitVerdict bytes m .row) (admit-answers bytes m)
+  where
+    go : (a : Answer) (i : ℕ) → AdmitReason bytes m a i → OneOf (numberOf a) (0 ∷ 1 ∷ 2 ∷ 3 ∷ 4 ∷ 5 ∷ 6 ∷ [])
+    go Done i h = inl refl
+    go Processors i h = inr (inl refl)
+    go TableLength i h = inr (inr (inl refl))
+    go RowRange i h = inr (inr (inr (inl refl)))
+    go RowExecution i h = inr (inr (inr (inr (inl refl))))
+    go Scale i h = inr (inr (inr (inr (inr (inl refl)))))
+    go Shares i h = inr (inr (inr (inr (inr (inr (inl refl))))))
+    go TaskNumber i h = absurd h
+    go BetweenTicks i h = absurd h
+    go TooSoon i h = absurd h
+    go HorizonPastClock i h = absurd h
+    go HorizonNotLater i h = absurd h
+    go RoomTooShort i h = absurd h
+    go NotTogether i h = absurd h
+    go TextForm i h = absurd h
+
+blank-refused : holdsOf blankState ≡ false
+blank-refused = go (holdsOf blankState) refl
+  where
+    go : (b : Bool) → holdsOf blankState ≡ b → holdsOf blankState ≡ false
+    go false e = e
+    go true e = let W = holds-whole blankState blank-sized e in absurd (omega (arith, W .together .table .processors .0))
+      where
+        blank-sized : Sized blankState
+        blank-sized = let S = fresh-sound blankTable (omega arith) (omega arith) in sized-by blankState S (length-replicate {A = ℕ} 128 0) (length-replicate {A = Bool} 128 false) (length-replicate {A = Bool} 128 false) (length-replicate {A = ℕ} 128 0)
+
+refused-blank : (bytes : List ℕ) (m : ℕ) → ¬ (admitOf bytes m .answer ≡ Done) → admitOf bytes m .state ≡ blankState
+unfolding admitOf tabledOf
+refused-blank bytes m n = ap freshState (tabled-refused bytes m (not-done (admitVerdict bytes m .answer) n))
+
+pub demand-1 : Say.Demand1
+demand-1 = record {
+  admits = λ bytes m. record {
+    listed = subst (λ (a : Answer). OneOf (numberOf a) (0 ∷ 1 ∷ 2 ∷ 3 ∷ 4 ∷ 5 ∷ 6 ∷ [])) (sym (answer-same bytes m .0)) (admit-listed bytes m);
+    refused = λ n. let e = refused-blank bytes m n in (e, ap holdsOf e ∙ blank-refused);
+  };
+  arrives = λ s task. record { listed = arrive-listed s task; refused = λ n. arrive-unchanged s task n };
+  steps = λ s h room. record { listed = unfold stepOf in (step-listed s h (length room)); refused = λ n. step-unchanged s h room n };
+  runs = λ s h room. record { listed = unfold runOf in (step-listed s h (length room)); refused = λ n. run-unchanged s h room n };
+}
+  where
+    arrive-unchanged : (s : State) (task : ℕ) → ¬ (arriveOf s task .answer ≡ Done) → arriveOf s task .state ≡ s
+    arrive-unchanged s task n = unfold arriveOf in (ap (λ b. if b then arrivedOf s (task - 1) else s) (not-done (arriveAnswerOf s task) (unfold arriveOf in n)))
+
+    step-unchanged : (s : State) (h : ℕ) (room : List ℕ) → ¬ (stepOf s h (length room) .answer ≡ Done) → (stepOf s h (length room) .state ≡ s) × (stepRoom s h room ≡ room)
+    step-unchanged s h room n = unfold stepOf stepRoom in (
+        let e = not-done (stepAnswerOf s h (length room)) n in
+        (ap (λ b. if b then movedOf s h .state else s) e, ap (λ b. if b then recordBytes (movedOf s h .rec) ++ drop 48 room else room) e))
+
+    run-unchanged : (s : State) (h : ℕ) (room : List ℕ) → ¬ (runOf s h (length room) .answer ≡ Done)
+        → (runOf s h (length room) .state ≡ s) × (runOf s h (length room) .records ≡ 0) × (runRoom s h room ≡ room)
+    run-unchanged s h room n = unfold runOf runRoom in (
+        let e = not-done (stepAnswerOf s h (length room)) n in
+        (rw e, rw e, rw e))

@@ -1,0 +1,7 @@
+pub mod Parts
+pub mod Refining
+pub mod Serving
+pub mod Runs
+pub mod Demands
+pub mod Coming
+pub mod Answering

@@ -1,0 +1,129 @@
+-- THE DEMANDS, said of the calls
+use mathlib.Core.Path.{_≡_}
+use mathlib.Core.Bool.{Bool, true, false}
+use mathlib.Core.Logic.{_⊎_}
+use mathlib.Core.List.{List, [], _∷_, _++_, foldl}
+use Prim.Native.Nat.{ℕ, suc, _+_, _*_, _-_, _/_, _≤_, _<_}
+use lib.ListN.{length, getD, drop}
+use Rattle.ground.specs.Tests.{if_then_else_}
+use Rattle.rules.specs.declared.Answer.{Answer}
+use Rattle.rules.specs.declared.Answer.the-variants.{Done, NotTogether}
+use Rattle.rules.specs.Answers.{isDone, numberOf}
+use Rattle.rules.specs.Admission.{admit}
+use Rattle.rules.specs.Record.{Record, readRecord}
+use Rattle.rules.specs.Calls.{arrive, step}
+use Rattle.rules.specs.Demands.{ran, Once}
+use Rattle.rules.specs.Run.{Call, arriveCall, stepCall}
+use Rattle.plane.specs.declared.State.{State}
+use Rattle.plane.specs.Machine.{shorterAt}
+use Rattle.plane.specs.View.{view, Sized}
+use Rattle.holding.specs.Holds.{holdsOf}
+use Rattle.calls.specs.declared.Arrived.{Arrived}
+use Rattle.calls.specs.declared.Stepped.{Stepped}
+use Rattle.calls.specs.declared.Admitted.{Admitted}
+use Rattle.calls.specs.declared.Ran.{Ran}
+use Rattle.calls.specs.Admit.{blankState, admitOf}
+use Rattle.calls.specs.Arrive.{arriveOf}
+use Rattle.calls.specs.Step.{stepOf, stepRoom}
+use Rattle.calls.specs.Run as Runs
+use Rattle.calls.specs.Run.{runOf, runRoom}
+
+-- DEMAND 1: each call answers 0 or one of its numbers, and what a refusal hands back and leaves in the room
+abbrev pub OneOf : ℕ → List ℕ → Type 0
+OneOf n [] = ⊥
+OneOf n (x ∷ l) = (n ≡ x) ⊎ OneOf n l
+
+pub record AdmitAnswers (bytes : List ℕ) (m : ℕ) : Type 0 where
+  pub listed : OneOf (numberOf (admitOf bytes m .answer)) (0 ∷ 1 ∷ 2 ∷ 3 ∷ 4 ∷ 5 ∷ 6 ∷ [])
+  pub refused : ¬ (admitOf bytes m .answer ≡ Done) → (admitOf bytes m .state ≡ blankState) × (holdsOf (admitOf bytes m .state) ≡ false)
+
+pub record ArriveAnswers (s : State) (task : ℕ) : Type 0 where
+  pub listed : OneOf (numberOf (arriveOf s task .answer)) (0 ∷ 7 ∷ 8 ∷ 9 ∷ 13 ∷ [])
+  pub refused : ¬ (arriveOf s task .answer ≡ Done) → arriveOf s task .state ≡ s
+
+pub record StepAnswers (s : State) (horizon : ℕ) (room : List ℕ) : Type 0 where
+  pub listed : OneOf (numberOf (stepOf s horizon (length room) .answer)) (0 ∷ 10 ∷ 11 ∷ 12 ∷ 13 ∷ [])
+  pub refused : ¬ (stepOf s horizon (length room) .answer ≡ Done) → (stepOf s horizon (length room) .state ≡ s) × (stepRoom s horizon room ≡ room)
+
+pub record RunAnswers (s : State) (horizon : ℕ) (room : List ℕ) : Type 0 where
+  pub listed : OneOf (numberOf (runOf s horizon (length room) .answer)) (0 ∷ 10 ∷ 11 ∷ 12 ∷ 13 ∷ [])
+  pub refused : ¬ (runOf s horizon (length room) .answer ≡ Done) → (runOf s horizon (length room) .state ≡ s) × (runOf s horizon (length room) .records ≡ 0) × (runRoom s horizon room ≡ room)
+
+pub record Demand1 : Type 0 where
+  pub admits : (bytes : List ℕ) (m : ℕ) → AdmitAnswers bytes m
+  pub arrives : (s : State) (task : ℕ) → ArriveAnswers s task
+  pub steps : (s : State) (horizon : ℕ) (room : List ℕ) → StepAnswers s horizon room
+  pub runs : (s : State) (horizon : ℕ) (room : List ℕ) → RunAnswers s horizon room
+
+-- DEMAND 2 of admit: number and row are the rules'; when admitted, so is the state, and it holds together
+pub record Admits (bytes : List ℕ) (m : ℕ) : Type 0 where
+  pub answer : admitOf bytes m .answer ≡ admit bytes m .answer
+  pub row : admitOf bytes m .row ≡ admit bytes m .row
+  pub state : admitOf bytes m .answer ≡ Done → (view (admitOf bytes m .state) ≡ admit bytes m .state) × (holdsOf (admitOf bytes m .state) ≡ true)
+
+-- DEMAND 2 of arrive: on a state that holds together, number and state are the rules', and the state handed back holds together
+pub record Arrives (s : State) (task : ℕ) : Type 0 where
+  pub answer : arriveOf s task .answer ≡ arrive (view s) task .answer
+  pub state : view (arriveOf s task .state) ≡ arrive (view s) task .state
+  pub holds : holdsOf (arriveOf s task .state) ≡ true
+
+-- DEMAND 2 of step: number, state, record and rest of the room
+pub record Steps (s : State) (horizon : ℕ) (room : List ℕ) : Type 0 where
+  pub answer : stepOf s horizon (length room) .answer ≡ step (view s) horizon room .answer
+  pub state : view (stepOf s horizon (length room) .state) ≡ step (view s) horizon room .state
+  pub bytes : stepRoom s horizon room ≡ step (view s) horizon room .room
+  pub holds : holdsOf (stepOf s horizon (length room) .state) ≡ true
+
+-- A RUN OF CALLS: each on the state that the last one handed back; the records are read off the bytes handed out
+pub record Calls : Type 0 where
+  pub state : State
+  pub records : List Record
+
+unfoldable pub calling : Calls → Call → Calls
+calling r (arriveCall task) = record { state = arriveOf (r .state) task .state; records = r .records }
+calling r (stepCall horizon room) =
+    record {
+      state = stepOf (r .state) horizon (length room) .state;
+      records = if isDone (stepOf (r .state) horizon (length room) .answer) then r .records ++ (readRecord (stepRoom (r .state) horizon room) ∷ []) else r .records;
+    }
+
+unfoldable pub callingAll : Calls → List Call → Calls
+callingAll r cs = foldl calling r cs
+
+-- DEMAND 3: what a step did for the job of the task in row j, which was awake before it;
+-- `after` is the state handed back, rs are all records handed out, this step's among them
+pub record Served (before after : State) (j : ℕ) (rs : List Record) : Type 0 where
+  -- "at every plane end that the clock reaches, each job awake in that plane has run since its arrival
+  -- exactly e times the ticks elapsed, divided by q"
+  pub exact : after .going ≡ false → (end : ℕ) × (after .now .0 ≡ end * before .table .scale) × (getD (before .jobs .last) j 0 ≤ end)
+      × (ran (suc j) (getD (before .jobs .last) j 0 * before .table .scale) rs * shorterAt (before .table) j
+      ≡ getD (before .table .exec) j 0 * before .table .scale * (end - getD (before .jobs .last) j 0))
+  -- the clock cannot pass arrival plus q
+  pub in-time : after .now .0 ≤ (getD (before .jobs .last) j 0 + shorterAt (before .table) j) * before .table .scale
+  -- "So when the clock reaches q after its arrival it has run exactly e ticks", and a plane ends there
+  pub whole : after .now .0 ≡ (getD (before .jobs .last) j 0 + shorterAt (before .table) j) * before .table .scale
+      → (after .going ≡ false) × (ran (suc j) (getD (before .jobs .last) j 0 * before .table .scale) rs ≡ getD (before .table .exec) j 0 * before .table .scale)
+
+-- one more step that is not refused serves every job that is awake, and no task is in two slots of one record
+abbrev pub Serves : Calls → Type 0
+Serves r =
+    ((horizon : ℕ) (room : List ℕ) → stepOf (r .state) horizon (length room) .answer ≡ Done
+    → (j : ℕ) → j < r .state .table .count → getD (r .state .jobs .awake) j false ≡ true
+    → Served (r .state) (stepOf (r .state) horizon (length room) .state) j (calling r (stepCall horizon room) .records))
+    × Once (r .records)
+
+-- "Start from any admitted table and make any calls, refused ones among them, each on the state the last one handed back."
+abbrev pub Demand3 : Type 0
+Demand3 = (bytes : List ℕ) (m : ℕ) → admitOf bytes m .answer ≡ Done → (calls : List Call)
+    → Serves (callingAll (record { state = admitOf bytes m .state; records = [] }) calls)
+
+-- DEMAND 2: a call on a state that does not hold together is refused by 13; on one that does, it is the rules' call
+pub record Demand2 : Type 0 where
+  pub admits : (bytes : List ℕ) (m : ℕ) → Admits bytes m
+  pub arrives : (s : State) (task : ℕ) → Sized s → (holdsOf s ≡ true → Arrives s task) × (holdsOf s ≡ false → arriveOf s task .answer ≡ NotTogether)
+  pub steps : (s : State) (horizon : ℕ) (room : List ℕ) → Sized s
+      → (holdsOf s ≡ true → Steps s horizon room) × (holdsOf s ≡ false → stepOf s horizon (length room) .answer ≡ NotTogether)
+  -- run is step after step
+  pub runs : (s : State) (horizon : ℕ) (room : List ℕ) → Sized s → runOf s horizon (length room) .answer ≡ Done
+      → (runOf s horizon (length room) .state ≡ Runs.steps (length room / 48) horizon s .state) × (runOf s horizon (length room) .records ≡ Runs.steps (length room / 48) horizon s .records)
+      × (runRoom s horizon room ≡ Runs.steps (length room / 48) horizon s .bytes ++ drop (length (Runs.steps (length room / 48) horizon s .bytes)) room)

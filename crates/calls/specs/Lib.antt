@@ -1,0 +1,5 @@
+pub mod Admit
+pub mod Arrive
+pub mod Step
+pub mod Run
+pub mod Demands

@@ -1,0 +1,33 @@
+-- STEP, as the code answers it
+use mathlib.Core.Bool.{Bool}
+use mathlib.Core.List.{List, _++_}
+use Prim.Native.Nat.{ℕ, _*_}
+use lib.Dec.{leb, ltb}
+use lib.ListN.{length, drop}
+use Rattle.ground.specs.Tests.{if_then_else_}
+use Rattle.rules.specs.declared.Answer.{Answer}
+use Rattle.rules.specs.declared.Answer.the-variants.{Done, HorizonPastClock, HorizonNotLater, RoomTooShort, NotTogether}
+use Rattle.rules.specs.Answers.{isDone}
+use Rattle.rules.specs.Record.{recordBytes}
+use Rattle.plane.specs.declared.State.{State}
+use Rattle.plane.specs.Machine.{movedOf}
+use Rattle.holding.specs.Holds.{holdsOf}
+use Rattle.calls.specs.declared.Stepped.{Stepped}
+
+-- the refusals after 13: "12, 10, 11"
+unfoldable pub movesAnswer : State → ℕ → ℕ → Answer
+movesAnswer s horizon room =
+    if ltb room 48 then RoomTooShort
+    else (if ltb 4294967295 horizon then HorizonPastClock
+    else (if leb (horizon * s .table .scale) (s .now .0) then HorizonNotLater else Done))
+
+-- "In step: 13, 12, 10, 11."
+unfoldable pub stepAnswerOf : State → ℕ → ℕ → Answer
+stepAnswerOf s horizon room = if holdsOf s then movesAnswer s horizon room else NotTogether
+
+unfoldable pub stepOf : State → ℕ → ℕ → Stepped
+stepOf s horizon room = record { answer = stepAnswerOf s horizon room; state = if isDone (stepAnswerOf s horizon room) then movedOf s horizon .state else s }
+
+-- the room afterwards: the record, and "Bytes of the room after the 48th are unchanged."; a refusal "write[s] nothing"
+unfoldable pub stepRoom : State → ℕ → List ℕ → List ℕ
+stepRoom s horizon room = if isDone (stepAnswerOf s horizon (length room)) then recordBytes (movedOf s horizon .rec) ++ drop 48 room else room

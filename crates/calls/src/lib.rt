@@ -1,0 +1,357 @@
+// The calls: admit, arrive, step, and run for many steps at once. None of them asks anything of its arguments.
+ghost use mathlib.Core.Path.{_≡_};
+ghost use mathlib.Core.Bool.{true};
+ghost use mathlib.Core.List.{_++_};
+ghost use lib.ListN.{length, drop};
+ghost use Rattle.rules.specs.Record.{recordBytes};
+ghost use Rattle.plane.specs.Machine.{movedOf};
+ghost use Rattle.holding.specs.Holds.{holdsOf};
+ghost use Rattle.whole.specs.Fresh.{freshState};
+ghost use Rattle.calls.specs.Admit.{admitOf};
+ghost use Prim.Native.Nat.{_*_, _<_, _≤_};
+ghost use Rattle.calls.specs.Arrive.{comesBy, Dated, arrivedBy, arriveOf};
+ghost use Rattle.whole.specs.Whole.{Whole};
+ghost use Rattle.calls.specs.Step.{stepOf, stepRoom};
+ghost use Rattle.calls.specs.Run.{runOf, runRoom};
+use ground::Instant;
+use plane::Jobs;
+use plane::State;
+use queue::Queue;
+use rules::Answer;
+use table::Table;
+use whole::Moment;
+use whole::Terms;
+
+// What admission answers: the number, the row that it names or 0, the state.
+pub struct Admitted {
+    pub answer: Answer,
+    pub row: usize,
+    pub state: State,
+}
+
+// What an arrival answers.
+pub struct Arrived {
+    pub answer: Answer,
+    pub state: State,
+}
+
+// What a step answers; its record is in the room.
+pub struct Stepped {
+    pub answer: Answer,
+    pub state: State,
+}
+
+// What a run answers; that many records are in the room.
+pub struct Ran {
+    pub answer: Answer,
+    pub state: State,
+    pub records: usize,
+}
+
+// The state of a table at instant 0.
+fn fresh(table: Table) -> State
+    ensures is { λ r. ⌜ r ≡ freshState table ⌝ }
+{
+    let present = Instant(0);
+    let jobs = Jobs {
+        awake: [false; 128],
+        arrived: [false; 128],
+        last: [0; 128],
+    };
+    let running = queue::cleared();
+    let waiting = queue::cleared();
+    let slots = [0; 16];
+    State {
+        table: table,
+        now: present,
+        going: false,
+        end: 0,
+        jobs: jobs,
+        running: running,
+        waiting: waiting,
+        slots: slots,
+    }
+}
+
+// Table bytes and m give a state at instant 0, no task awake, no plane open; a refusal gives the blank state.
+pub fn admit(bytes: &[u8], m: usize) -> Admitted
+    ensures is { λ r. ⌜ r ≡ admitOf (now (bytes .entry)) m ⌝ }
+{
+    let t = table::admit_table(bytes, m);
+    let answer = t.answer;
+    let table = t.table;
+    let state = fresh(table);
+    Admitted {
+        answer: answer,
+        row: t.row,
+        state: state,
+    }
+}
+
+// A number of ticks of the table.
+fn wide(x: u32) -> u64
+    ensures is { λ r. ⌜ (r ≡ x) × (r < 4294967296) ⌝ }
+{
+    x as u64
+}
+
+// The answer to an arrival on a state that holds together: 7, 8, 9 or 0.
+fn comes(
+    terms: Terms,
+    present: Instant,
+    period: &[u32; 128],
+    arrived: &[bool; 128],
+    last: &[u64; 128],
+    task: u64,
+) -> Answer
+    requires dated { ⌜ Dated (terms .count) (terms .scale) (now arrived) (now last) ⌝ }
+    ensures is { λ r. ⌜ r ≡ comesBy (terms .count) (terms .scale) (present .0) (now (period .entry)) (now (arrived .entry)) (now (last .entry)) task ⌝ }
+{
+    if task < 1 {
+        return Answer::TaskNumber;
+    }
+    let count = terms.count as u64;
+    if count < task {
+        return Answer::TaskNumber;
+    }
+    if present.0 % terms.scale != 0 {
+        return Answer::BetweenTicks;
+    }
+    let i = (task - 1) as usize;
+    if arrived[i] {
+        if present.0 / terms.scale < last[i] + wide(period[i]) {
+            return Answer::TooSoon;
+        }
+    }
+    Answer::Done
+}
+
+// AN ARRIVAL AND A STEP
+
+// Does the state hold together? Then it is whole.
+fn check(s: State) -> bool
+    ensures is { λ r. ⌜ (r ≡ holdsOf s) × (r ≡ true → Whole s) ⌝ }
+{
+    holding::holds(s)
+}
+
+// An arrival on a state that holds together.
+fn arrive_whole(s: State, task: u64) -> Arrived
+    requires whole { ⌜ Whole s ⌝ }
+    ensures is { λ r. ⌜ r ≡ arrivedBy s task ⌝ }
+{
+    let table = s.table;
+    let period = table.period;
+    let exec = table.exec;
+    let deadline = table.deadline;
+    let share = table.share;
+    let order = table.order;
+    let jobs = s.jobs;
+    let mut awake = jobs.awake;
+    let mut arrived = jobs.arrived;
+    let mut last = jobs.last;
+    let running = s.running;
+    let mut rk = running.keys;
+    let mut rt = running.tasks;
+    let waiting = s.waiting;
+    let mut wk = waiting.keys;
+    let mut wt = waiting.tasks;
+    let mut slots = s.slots;
+    let present = s.now;
+    let terms = Terms {
+        count: table.count,
+        m: table.m,
+        scale: table.scale,
+    };
+    let answer = comes(terms, present, &period, &arrived, &last, task);
+    if !table::is_done(answer) {
+        return Arrived {
+            answer: answer,
+            state: s,
+        };
+    }
+    let moment = Moment {
+        now: present,
+        going: s.going,
+        end: s.end,
+        running: running.len,
+        waiting: waiting.len,
+    };
+    let r = whole::arrive_in(
+        terms,
+        moment,
+        (task - 1) as usize,
+        &period,
+        &exec,
+        &deadline,
+        &share,
+        &order,
+        &mut awake,
+        &mut arrived,
+        &mut last,
+        &mut rk,
+        &mut rt,
+        &mut wk,
+        &mut wt,
+        &mut slots,
+    );
+    let at = r.now;
+    let run = Queue {
+        keys: rk,
+        tasks: rt,
+        len: r.running,
+    };
+    let wait = Queue {
+        keys: wk,
+        tasks: wt,
+        len: r.waiting,
+    };
+    let held = Jobs {
+        awake: awake,
+        arrived: arrived,
+        last: last,
+    };
+    let mut k = s;
+    k.now = at;
+    k.going = r.going;
+    k.end = r.end;
+    k.jobs = held;
+    k.running = run;
+    k.waiting = wait;
+    k.slots = slots;
+    Arrived {
+        answer: answer,
+        state: k,
+    }
+}
+
+// A task arrives at the present instant.
+pub fn arrive(s: State, task: u64) -> Arrived
+    ensures is { λ r. ⌜ r ≡ arriveOf s task ⌝ }
+{
+    if !check(s) {
+        return Arrived {
+            answer: Answer::NotTogether,
+            state: s,
+        };
+    }
+    arrive_whole(s, task)
+}
+
+// A step on a state that holds together, to a horizon that lies ahead.
+fn step_whole(s: State, horizon: u64, room: &mut [u8]) -> State
+    requires ready { ⌜ Whole s × (s .now .0 < horizon * s .table .scale) × (horizon ≤ 4294967295) × (48 ≤ length (now room)) ⌝ }
+    ensures is { λ r. ⌜ (r ≡ movedOf s horizon .state) × (now (room .exit) ≡ recordBytes (movedOf s horizon .rec) ++ drop 48 (now (room .entry))) ⌝ }
+{
+    let table = s.table;
+    let period = table.period;
+    let exec = table.exec;
+    let deadline = table.deadline;
+    let share = table.share;
+    let order = table.order;
+    let jobs = s.jobs;
+    let mut awake = jobs.awake;
+    let arrived = jobs.arrived;
+    let last = jobs.last;
+    let running = s.running;
+    let mut rk = running.keys;
+    let mut rt = running.tasks;
+    let waiting = s.waiting;
+    let mut wk = waiting.keys;
+    let mut wt = waiting.tasks;
+    let mut slots = s.slots;
+    let present = s.now;
+    let terms = Terms {
+        count: table.count,
+        m: table.m,
+        scale: table.scale,
+    };
+    let moment = Moment {
+        now: present,
+        going: s.going,
+        end: s.end,
+        running: running.len,
+        waiting: waiting.len,
+    };
+    let r = whole::step_in(
+        terms,
+        moment,
+        horizon,
+        &period,
+        &exec,
+        &deadline,
+        &share,
+        &order,
+        &mut awake,
+        &arrived,
+        &last,
+        &mut rk,
+        &mut rt,
+        &mut wk,
+        &mut wt,
+        &mut slots,
+        room,
+    );
+    let at = r.now;
+    let run = Queue {
+        keys: rk,
+        tasks: rt,
+        len: r.running,
+    };
+    let wait = Queue {
+        keys: wk,
+        tasks: wt,
+        len: r.waiting,
+    };
+    let held = Jobs {
+        awake: awake,
+        arrived: arrived,
+        last: last,
+    };
+    let mut k = s;
+    k.now = at;
+    k.going = r.going;
+    k.end = r.end;
+    k.jobs = held;
+    k.running = run;
+    k.waiting = wait;
+    k.slots = slots;
+    k
+}
+
+// Runs to the next event or the horizon, whichever is first, and writes one record.
+pub fn step(s: State, horizon: u64, room: &mut [u8]) -> Stepped
+    ensures is { λ r. ⌜ (r ≡ stepOf s horizon (length (now (room .entry)))) × (now (room .exit) ≡ stepRoom s horizon (now (room .entry))) ⌝ }
+{
+    if !check(s) {
+        return Stepped {
+            answer: Answer::NotTogether,
+            state: s,
+        };
+    }
+    if room.len() < 48 {
+        return Stepped {
+            answer: Answer::RoomTooShort,
+            state: s,
+        };
+    }
+    if 4294967295 < horizon {
+        return Stepped {
+            answer: Answer::HorizonPastClock,
+            state: s,
+        };
+    }
+    let table = s.table;
+    let present = s.now;
+    if horizon * table.scale <= present.0 {
+        return Stepped {
+            answer: Answer::HorizonNotLater,
+            state: s,
+        };
+    }
+    let moved = step_whole(s, horizon, room);
+    Stepped {
+        answer: Answer::Done,
+        state: moved,
+    }
+}

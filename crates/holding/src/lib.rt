@@ -1,0 +1,148 @@
+// Does a state that is handed in hold together? Any state: every field may have any value of its type.
+ghost use mathlib.Core.Path.{_≡_};
+ghost use Rattle.queue.specs.Lent.{old};
+ghost use Rattle.holding.specs.Tables.{tableOf};
+ghost use Rattle.holding.specs.Holds.{stateOf, holdsOf};
+use columns::order_ok;
+use columns::table_ok;
+use ground::Instant;
+use jobs::lasts_ok;
+use plane::State;
+use planes::closed_ok;
+use planes::open_ok;
+
+mod columns;
+mod euclid;
+mod jobs;
+mod keys;
+mod members;
+mod numbers;
+mod planes;
+
+// Does the state of these parts hold together? Bounds first, products later.
+pub fn holds_lent(
+    period: &[u32; 128],
+    exec: &[u32; 128],
+    deadline: &[u32; 128],
+    share: &[u64; 128],
+    order: &[u16; 128],
+    count: usize,
+    m: usize,
+    scale: u64,
+    present: Instant,
+    going: bool,
+    end: u64,
+    awake: &[bool; 128],
+    arrived: &[bool; 128],
+    last: &[u64; 128],
+    rk: &[u64; 128],
+    rt: &[u16; 128],
+    rn: usize,
+    wk: &[u64; 128],
+    wt: &[u16; 128],
+    wn: usize,
+    slots: &[u16; 16],
+) -> bool
+    ensures is { λ r. ⌜ r ≡ holdsOf (stateOf (tableOf (now (period .entry)) (now (exec .entry)) (now (deadline .entry)) (now (share .entry)) (now (order .entry)) count m scale)
+        (present .0) going end (now (awake .entry)) (now (arrived .entry)) (now (last .entry)) (old rk rt rn) (old wk wt wn) (now (slots .entry))) ⌝ }
+{
+    if !table_ok(period, exec, deadline, share, order, count, m, scale) {
+        return false;
+    }
+    if !order_ok(share, order, count) {
+        return false;
+    }
+    if 4294967295 * scale < present.0 {
+        return false;
+    }
+    if !lasts_ok(arrived, awake, last, present.0 / scale, count) {
+        return false;
+    }
+    if going {
+        return open_ok(
+            period,
+            deadline,
+            share,
+            count,
+            m,
+            scale,
+            present,
+            end,
+            awake,
+            arrived,
+            last,
+            rk,
+            rt,
+            rn,
+            wk,
+            wt,
+            wn,
+            slots,
+        );
+    }
+    closed_ok(
+        period,
+        deadline,
+        count,
+        m,
+        scale,
+        present,
+        awake,
+        arrived,
+        last,
+        rk,
+        rt,
+        rn,
+        wk,
+        wt,
+        wn,
+        slots,
+    )
+}
+
+// Does the state hold together?
+pub fn holds(s: State) -> bool
+    ensures is { λ r. ⌜ r ≡ holdsOf s ⌝ }
+{
+    let table = s.table;
+    let period = table.period;
+    let exec = table.exec;
+    let deadline = table.deadline;
+    let share = table.share;
+    let order = table.order;
+    let jobs = s.jobs;
+    let awake = jobs.awake;
+    let arrived = jobs.arrived;
+    let last = jobs.last;
+    let running = s.running;
+    let rk = running.keys;
+    let rt = running.tasks;
+    let waiting = s.waiting;
+    let wk = waiting.keys;
+    let wt = waiting.tasks;
+    let slots = s.slots;
+    let present = s.now;
+    holds_lent(
+        &period,
+        &exec,
+        &deadline,
+        &share,
+        &order,
+        table.count,
+        table.m,
+        table.scale,
+        present,
+        s.going,
+        s.end,
+        &awake,
+        &arrived,
+        &last,
+        &rk,
+        &rt,
+        running.len,
+        &wk,
+        &wt,
+        waiting.len,
+        &slots,
+    )
+}
