@@ -29,7 +29,9 @@ use Rattle.holding.specs.Holds.{holdsOf}
 use Rattle.whole.specs.Whole.{Whole}
 use Rattle.whole.proofs.Keeping.{task-at}
 use Rattle.rules.specs.Record.{recordBytes}
+use Rattle.calls.specs.declared.Ran.{Ran}
 use Rattle.calls.specs.Step.{movesAnswer, stepAnswerOf, stepOf, stepRoom}
+use Rattle.calls.specs.Run.{ranBy, filledBy, runOf, runRoom}
 use Rattle.calls.specs.Arrive.{comesAnswer, Dated, arrivedBy, arriveAnswerOf, arriveOf}
 use Rattle.calls.proofs.Refining.{whole-holds, arrive-same}
 
@@ -46,6 +48,10 @@ whole-dated s W =
           let le : at i (tasksAt s) .last ≤ 4294967295 = le-of-mul-le-mul-right (omega (arith, came, W .together .clock)) (F .scale-pos) in
           omega arith;
     }
+
+-- the answer 0
+done-is : (a : Answer) → isDone a ≡ true → a ≡ Done
+done-is a d = by-answer _ a (λ e. e) (λ f. not-both _ (sym f ∙ d))
 
 -- ARRIVE
 pub arrive-13 : (s : State) (task : ℕ) → holdsOf s ≡ false → record { answer = NotTogether; state = s } ≡ arriveOf s task
@@ -71,45 +77,57 @@ module _ (s : State) (task : ℕ) (a : Answer) (e : a ≡ comesAnswer s task) wh
       let z : arriveAnswerOf s task ≡ Done = ap (λ b. if b then comesAnswer s task else NotTogether) (whole-holds s W) ∙ sym e ∙ done-is a d in
       let R = subst (ArriveReason (view s) task) (sym (arrive-same s task W) ∙ z) (arrive-answers (view s) task) in
       (R .1 .0, done-comes (view s) task R)
-    where
-      done-is : (a : Answer) → isDone a ≡ true → a ≡ Done
-      done-is a d = by-answer _ a (λ e. e) (λ f. not-both _ (sym f ∙ d))
 
--- STEP
--- a refusal hands back the state and leaves the room
-abbrev pub StepRefuses : State → ℕ → List ℕ → Answer → Type 0
-StepRefuses s horizon room a = (record { answer = a; state = s } ≡ stepOf s horizon (length room)) × (room ≡ stepRoom s horizon room)
-
-module _ (s : State) (horizon : ℕ) (room : List ℕ) where
-  pub step-13 : holdsOf s ≡ false → StepRefuses s horizon room NotTogether
-  unfolding stepOf stepAnswerOf stepRoom
-  step-13 h = (rw h, rw h)
+-- STEP AND RUN: the number
+module _ (s : State) (horizon room : ℕ) where
+  pub answer-13 : holdsOf s ≡ false → NotTogether ≡ stepAnswerOf s horizon room
+  unfolding stepAnswerOf
+  answer-13 h = rw h
 
   module _ (h : holdsOf s ≡ true) where
-    pub step-12 : length room < 48 → StepRefuses s horizon room RoomTooShort
-    unfolding stepOf stepAnswerOf stepRoom movesAnswer
-    step-12 a = let a : ltb (length room) 48 ≡ true = is-true _ (ltb-says (length room) 48) a in (rw (h, a), rw (h, a))
+    pub answer-12 : room < 48 → RoomTooShort ≡ stepAnswerOf s horizon room
+    unfolding stepAnswerOf movesAnswer
+    answer-12 a = rw (h, is-true (ltb room 48) (ltb-says room 48) a)
 
-    module _ (a : 48 ≤ length room) where
-      short : ltb (length room) 48 ≡ false
-      short = is-false _ (ltb-says (length room) 48) (λ z. omega arith)
+    module _ (a : 48 ≤ room) where
+      short : ltb room 48 ≡ false
+      short = is-false _ (ltb-says room 48) (λ z. omega arith)
 
-      pub step-10 : 4294967295 < horizon → StepRefuses s horizon room HorizonPastClock
-      unfolding stepOf stepAnswerOf stepRoom movesAnswer
-      step-10 b = let b : ltb 4294967295 horizon ≡ true = is-true _ (ltb-says 4294967295 horizon) b in (rw (h, short, b), rw (h, short, b))
+      pub answer-10 : 4294967295 < horizon → HorizonPastClock ≡ stepAnswerOf s horizon room
+      unfolding stepAnswerOf movesAnswer
+      answer-10 b = rw (h, short, is-true (ltb 4294967295 horizon) (ltb-says 4294967295 horizon) b)
 
       module _ (b : horizon ≤ 4294967295) where
         past : ltb 4294967295 horizon ≡ false
         past = is-false _ (ltb-says 4294967295 horizon) (λ z. omega arith)
 
-        pub step-11 : horizon * s .table .scale ≤ s .now .0 → StepRefuses s horizon room HorizonNotLater
-        unfolding stepOf stepAnswerOf stepRoom movesAnswer
-        step-11 d = let d : leb (horizon * s .table .scale) (s .now .0) ≡ true = is-true _ (leb-says (horizon * s .table .scale) (s .now .0)) d in (rw (h, short, past, d), rw (h, short, past, d))
+        pub answer-11 : horizon * s .table .scale ≤ s .now .0 → HorizonNotLater ≡ stepAnswerOf s horizon room
+        unfolding stepAnswerOf movesAnswer
+        answer-11 d = rw (h, short, past, is-true (leb (horizon * s .table .scale) (s .now .0)) (leb-says (horizon * s .table .scale) (s .now .0)) d)
 
-        pub step-0 : s .now .0 < horizon * s .table .scale
-            → (record { answer = Done; state = movedOf s horizon .state } ≡ stepOf s horizon (length room))
-            × (recordBytes (movedOf s horizon .rec) ++ drop 48 room ≡ stepRoom s horizon room)
-        unfolding stepOf stepAnswerOf stepRoom movesAnswer
-        step-0 d =
-            let d : leb (horizon * s .table .scale) (s .now .0) ≡ false = is-false _ (leb-says (horizon * s .table .scale) (s .now .0)) (λ z. omega arith) in
-            (rw (h, short, past, d), rw (h, short, past, d))
+        pub answer-0 : s .now .0 < horizon * s .table .scale → Done ≡ stepAnswerOf s horizon room
+        unfolding stepAnswerOf movesAnswer
+        answer-0 d =
+            let later : leb (horizon * s .table .scale) (s .now .0) ≡ false = is-false _ (leb-says (horizon * s .table .scale) (s .now .0)) (λ z. omega arith) in
+            rw (h, short, past, later)
+
+-- STEP AND RUN: a refusal hands back the state and leaves the room
+module _ (s : State) (horizon : ℕ) (room : List ℕ) (a : Answer) (e : a ≡ stepAnswerOf s horizon (length room)) where
+  module _ (d : isDone a ≡ false) where
+    pub step-no : (record { answer = a; state = s } ≡ stepOf s horizon (length room)) × (room ≡ stepRoom s horizon room)
+    unfolding stepOf stepRoom
+    step-no = (rw (← e, d), rw (← e, d))
+
+    pub run-no : (record { answer = a; state = s; records = 0 } ≡ runOf s horizon (length room)) × (room ≡ runRoom s horizon room)
+    unfolding runOf runRoom
+    run-no = (rw (← e, d), rw (← e, d))
+
+  module _ (d : isDone a ≡ true) where
+    pub step-yes : (record { answer = a; state = movedOf s horizon .state } ≡ stepOf s horizon (length room))
+        × (recordBytes (movedOf s horizon .rec) ++ drop 48 room ≡ stepRoom s horizon room)
+    unfolding stepOf stepRoom
+    step-yes = (rw (← e, d), rw (← e, d))
+
+    pub run-yes : (ranBy s horizon (length room) ≡ runOf s horizon (length room)) × (filledBy s horizon room ≡ runRoom s horizon room)
+    unfolding runOf runRoom ranBy filledBy
+    run-yes = let q : stepAnswerOf s horizon (length room) ≡ Done = sym e ∙ done-is a d in (rw q, rw q)

@@ -29,6 +29,7 @@ use Rattle.table.proofs.Admitted.{tabled-refused, tabled-done}
 use Rattle.plane.specs.Machine.{tickAt, movedOf, arrivedOf}
 use Rattle.plane.specs.View.{view, Sized}
 use Rattle.holding.specs.Holds.{holdsOf}
+use Rattle.holding.proofs.Holding.{holding-says}
 use Rattle.whole.specs.Fresh.{freshState}
 use Rattle.whole.specs.Whole.{Whole}
 use Rattle.whole.proofs.Fresh.{fresh-view, fresh-sound, fresh-whole}
@@ -119,6 +120,7 @@ run-is-steps s h room z d =
 
 pub demand-2 : Say.Demand2
 demand-2 = record {
+  together = λ s z. holding-says s z (z .order);
   admits = admits;
   arrives = λ s task z. (arrives s task z, arrive-13 s task);
   steps = λ s h room z. (Refines.steps s h room z, step-13 s h (length room));
@@ -207,3 +209,12 @@ demand-1 = record {
     run-unchanged s h room n = unfold runOf runRoom in (
         let e = not-done (stepAnswerOf s h (length room)) n in
         (rw e, rw e, rw e))
+
+-- TIGHT
+pub tight : Say.Tight
+tight = record {
+  admits = λ bytes m a b e f. e ∙ sym f;
+  arrives = λ s task a b e f. e ∙ sym f;
+  steps = λ s h room a b u v e f. (e .0 ∙ sym (f .0), e .1 ∙ sym (f .1));
+  runs = λ s h room a b u v e f. (e .0 ∙ sym (f .0), e .1 ∙ sym (f .1));
+}

@@ -5,7 +5,7 @@ use mathlib.Core.Logic.{_⊎_}
 use mathlib.Core.List.{List, [], _∷_, _++_, foldl}
 use Prim.Native.Nat.{ℕ, suc, _+_, _*_, _-_, _/_, _≤_, _<_}
 use lib.ListN.{length, getD, drop}
-use Rattle.ground.specs.Tests.{if_then_else_}
+use Rattle.ground.specs.Tests.{if_then_else_, Says}
 use Rattle.rules.specs.declared.Answer.{Answer}
 use Rattle.rules.specs.declared.Answer.the-variants.{Done, NotTogether}
 use Rattle.rules.specs.Answers.{isDone, numberOf}
@@ -17,7 +17,7 @@ use Rattle.rules.specs.Run.{Call, arriveCall, stepCall}
 use Rattle.plane.specs.declared.State.{State}
 use Rattle.plane.specs.Machine.{shorterAt}
 use Rattle.plane.specs.View.{view, Sized}
-use Rattle.holding.specs.Holds.{holdsOf}
+use Rattle.holding.specs.Holds.{Holding, holdsOf}
 use Rattle.calls.specs.declared.Arrived.{Arrived}
 use Rattle.calls.specs.declared.Stepped.{Stepped}
 use Rattle.calls.specs.declared.Admitted.{Admitted}
@@ -119,6 +119,8 @@ Demand3 = (bytes : List ℕ) (m : ℕ) → admitOf bytes m .answer ≡ Done → 
 
 -- DEMAND 2: a call on a state that does not hold together is refused by 13; on one that does, it is the rules' call
 pub record Demand2 : Type 0 where
+  -- the check is "A state that holds together", of any state whatever
+  pub together : (s : State) → Sized s → Says (Holding s) (holdsOf s)
   pub admits : (bytes : List ℕ) (m : ℕ) → Admits bytes m
   pub arrives : (s : State) (task : ℕ) → Sized s → (holdsOf s ≡ true → Arrives s task) × (holdsOf s ≡ false → arriveOf s task .answer ≡ NotTogether)
   pub steps : (s : State) (horizon : ℕ) (room : List ℕ) → Sized s
@@ -127,3 +129,12 @@ pub record Demand2 : Type 0 where
   pub runs : (s : State) (horizon : ℕ) (room : List ℕ) → Sized s → runOf s horizon (length room) .answer ≡ Done
       → (runOf s horizon (length room) .state ≡ Runs.steps (length room / 48) horizon s .state) × (runOf s horizon (length room) .records ≡ Runs.steps (length room / 48) horizon s .records)
       × (runRoom s horizon room ≡ Runs.steps (length room / 48) horizon s .bytes ++ drop (length (Runs.steps (length room / 48) horizon s .bytes)) room)
+
+-- TIGHT: any two results that a promise allows are equal, and so are any two rooms
+pub record Tight : Type 0 where
+  pub admits : (bytes : List ℕ) (m : ℕ) (a b : Admitted) → a ≡ admitOf bytes m → b ≡ admitOf bytes m → a ≡ b
+  pub arrives : (s : State) (task : ℕ) (a b : Arrived) → a ≡ arriveOf s task → b ≡ arriveOf s task → a ≡ b
+  pub steps : (s : State) (horizon : ℕ) (room : List ℕ) (a b : Stepped) (u v : List ℕ)
+      → (a ≡ stepOf s horizon (length room)) × (u ≡ stepRoom s horizon room) → (b ≡ stepOf s horizon (length room)) × (v ≡ stepRoom s horizon room) → (a ≡ b) × (u ≡ v)
+  pub runs : (s : State) (horizon : ℕ) (room : List ℕ) (a b : Ran) (u v : List ℕ)
+      → (a ≡ runOf s horizon (length room)) × (u ≡ runRoom s horizon room) → (b ≡ runOf s horizon (length room)) × (v ≡ runRoom s horizon room) → (a ≡ b) × (u ≡ v)

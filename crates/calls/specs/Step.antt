@@ -1,7 +1,7 @@
 -- STEP, as the code answers it
 use mathlib.Core.Bool.{Bool}
 use mathlib.Core.List.{List, _++_}
-use Prim.Native.Nat.{ℕ, _*_}
+use Prim.Native.Nat.{ℕ, _*_, _<_, _≤_}
 use lib.Dec.{leb, ltb}
 use lib.ListN.{length, drop}
 use Rattle.ground.specs.Tests.{if_then_else_}
@@ -11,6 +11,7 @@ use Rattle.rules.specs.Answers.{isDone}
 use Rattle.rules.specs.Record.{recordBytes}
 use Rattle.plane.specs.declared.State.{State}
 use Rattle.plane.specs.Machine.{movedOf}
+use Rattle.whole.specs.Whole.{Whole}
 use Rattle.holding.specs.Holds.{holdsOf}
 use Rattle.calls.specs.declared.Stepped.{Stepped}
 
@@ -31,3 +32,10 @@ stepOf s horizon room = record { answer = stepAnswerOf s horizon room; state = i
 -- the room afterwards: the record, and "Bytes of the room after the 48th are unchanged."; a refusal "write[s] nothing"
 unfoldable pub stepRoom : State → ℕ → List ℕ → List ℕ
 stepRoom s horizon room = if isDone (stepAnswerOf s horizon (length room)) then recordBytes (movedOf s horizon .rec) ++ drop 48 room else room
+
+-- a step can be taken
+pub record Ahead (s : State) (horizon room : ℕ) : Type 0 where
+  pub whole : Whole s
+  pub ahead : s .now .0 < horizon * s .table .scale
+  pub clock : horizon ≤ 4294967295
+  pub space : 48 ≤ room

@@ -11,8 +11,9 @@ ghost use Rattle.calls.specs.Admit.{admitOf};
 ghost use Prim.Native.Nat.{_*_, _<_, _≤_};
 ghost use Rattle.calls.specs.Arrive.{comesBy, Dated, arrivedBy, arriveOf};
 ghost use Rattle.whole.specs.Whole.{Whole};
-ghost use Rattle.calls.specs.Step.{stepOf, stepRoom};
-ghost use Rattle.calls.specs.Run.{runOf, runRoom};
+ghost use Rattle.rules.specs.Answers.{isDone};
+ghost use Rattle.calls.specs.Step.{stepAnswerOf, Ahead, stepOf, stepRoom};
+ghost use Rattle.calls.specs.Run.{goesOn, ranBy, filledBy, runOf, runRoom};
 use ground::Instant;
 use plane::Jobs;
 use plane::State;
@@ -319,39 +320,160 @@ fn step_whole(s: State, horizon: u64, room: &mut [u8]) -> State
     k
 }
 
-// Runs to the next event or the horizon, whichever is first, and writes one record.
-pub fn step(s: State, horizon: u64, room: &mut [u8]) -> Stepped
-    ensures is { λ r. ⌜ (r ≡ stepOf s horizon (length (now (room .entry)))) × (now (room .exit) ≡ stepRoom s horizon (now (room .entry))) ⌝ }
+// The number that step and run answer with; 0 means that the step can be taken.
+fn may_step(s: State, horizon: u64, len: usize) -> Answer
+    ensures is { λ r. ⌜ (r ≡ stepAnswerOf s horizon len) × (isDone r ≡ true → Ahead s horizon len) ⌝ }
 {
     if !check(s) {
-        return Stepped {
-            answer: Answer::NotTogether,
-            state: s,
-        };
+        return Answer::NotTogether;
     }
-    if room.len() < 48 {
-        return Stepped {
-            answer: Answer::RoomTooShort,
-            state: s,
-        };
+    if len < 48 {
+        return Answer::RoomTooShort;
     }
     if 4294967295 < horizon {
-        return Stepped {
-            answer: Answer::HorizonPastClock,
-            state: s,
-        };
+        return Answer::HorizonPastClock;
     }
     let table = s.table;
     let present = s.now;
     if horizon * table.scale <= present.0 {
+        return Answer::HorizonNotLater;
+    }
+    Answer::Done
+}
+
+// Runs to the next event or the horizon, whichever is first, and writes one record.
+pub fn step(s: State, horizon: u64, room: &mut [u8]) -> Stepped
+    ensures is { λ r. ⌜ (r ≡ stepOf s horizon (length (now (room .entry)))) × (now (room .exit) ≡ stepRoom s horizon (now (room .entry))) ⌝ }
+{
+    let answer = may_step(s, horizon, room.len());
+    if !table::is_done(answer) {
         return Stepped {
-            answer: Answer::HorizonNotLater,
+            answer: answer,
             state: s,
         };
     }
     let moved = step_whole(s, horizon, room);
     Stepped {
-        answer: Answer::Done,
+        answer: answer,
         state: moved,
     }
+}
+
+// Is there another step: room for a record, and a horizon ahead?
+fn goes_on(left: usize, present: Instant, stop: u64) -> bool
+    ensures is { λ r. ⌜ r ≡ goesOn left (present .0) stop ⌝ }
+{
+    if 0 < left {
+        return present.0 < stop;
+    }
+    false
+}
+
+// Steps on a state that holds together, while the horizon lies ahead and 48 bytes of the room are left.
+fn run_whole(s: State, horizon: u64, room: &mut [u8]) -> Ran
+    requires ready { ⌜ Whole s × (horizon ≤ 4294967295) ⌝ }
+    ensures is { λ r. ⌜ (r ≡ ranBy s horizon (length (now (room .entry)))) × (now (room .exit) ≡ filledBy s horizon (now (room .entry))) ⌝ }
+{
+    let table = s.table;
+    let period = table.period;
+    let exec = table.exec;
+    let deadline = table.deadline;
+    let share = table.share;
+    let order = table.order;
+    let jobs = s.jobs;
+    let mut awake = jobs.awake;
+    let arrived = jobs.arrived;
+    let last = jobs.last;
+    let running = s.running;
+    let mut rk = running.keys;
+    let mut rt = running.tasks;
+    let waiting = s.waiting;
+    let mut wk = waiting.keys;
+    let mut wt = waiting.tasks;
+    let mut slots = s.slots;
+    let present = s.now;
+    let terms = Terms {
+        count: table.count,
+        m: table.m,
+        scale: table.scale,
+    };
+    let moment = Moment {
+        now: present,
+        going: s.going,
+        end: s.end,
+        running: running.len,
+        waiting: waiting.len,
+    };
+    let stop = horizon * table.scale;
+    let mut r = moment;
+    let mut left = room.len() / 48;
+    let mut records: usize = 0;
+    while goes_on(left, r.now, stop) {
+        let start = records * 48;
+        r = whole::step_in(
+            terms,
+            r,
+            horizon,
+            &period,
+            &exec,
+            &deadline,
+            &share,
+            &order,
+            &mut awake,
+            &arrived,
+            &last,
+            &mut rk,
+            &mut rt,
+            &mut wk,
+            &mut wt,
+            &mut slots,
+            &mut room[start..],
+        );
+        left -= 1;
+        records += 1;
+    }
+    let at = r.now;
+    let run = Queue {
+        keys: rk,
+        tasks: rt,
+        len: r.running,
+    };
+    let wait = Queue {
+        keys: wk,
+        tasks: wt,
+        len: r.waiting,
+    };
+    let held = Jobs {
+        awake: awake,
+        arrived: arrived,
+        last: last,
+    };
+    let mut k = s;
+    k.now = at;
+    k.going = r.going;
+    k.end = r.end;
+    k.jobs = held;
+    k.running = run;
+    k.waiting = wait;
+    k.slots = slots;
+    Ran {
+        answer: Answer::Done,
+        state: k,
+        records: records,
+    }
+}
+
+// Step after step till the horizon, or till less than 48 bytes of the room are left.
+pub fn run(s: State, horizon: u64, room: &mut [u8]) -> Ran
+    ensures is { λ r. ⌜ (r ≡ runOf s horizon (length (now (room .entry)))) × (now (room .exit) ≡ runRoom s horizon (now (room .entry))) ⌝ }
+{
+    let answer = may_step(s, horizon, room.len());
+    if !table::is_done(answer) {
+        return Ran {
+            answer: answer,
+            state: s,
+            records: 0,
+        };
+    }
+    run_whole(s, horizon, room)
 }

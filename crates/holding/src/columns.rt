@@ -8,10 +8,10 @@ ghost use Rattle.rules.specs.Admission.{processorsOk};
 ghost use Rattle.rules.specs.Table.{inRange};
 ghost use Rattle.rules.specs.Scale.{gcd};
 ghost use Rattle.holding.specs.Tables.{rowOk, rowsOk, scaleInRange, shareOk, scaleOk, shareSum, tableOk, tableOf, placesOk, ahead, fallsOk};
-use crate::euclid::gcd;
 use crate::numbers::place;
 use crate::numbers::shorter;
 use crate::numbers::wide;
+use table::gcd;
 
 // ROWS
 

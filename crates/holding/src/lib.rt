@@ -12,7 +12,6 @@ use planes::closed_ok;
 use planes::open_ok;
 
 mod columns;
-mod euclid;
 mod jobs;
 mod keys;
 mod members;

@@ -15,6 +15,3 @@ pub mod Arriving
 pub mod Marks
 pub mod Sound
 pub mod Fit
-pub mod Turning
-pub mod Rows
-pub mod Needs

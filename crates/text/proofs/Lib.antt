@@ -1,0 +1,11 @@
+pub mod Texts
+pub mod Splitting
+pub mod Numerals
+pub mod Items
+pub mod Forms
+pub mod Walks
+pub mod Pastes
+pub mod Decimals
+pub mod Records
+pub mod Readback
+pub mod Tables

@@ -1,0 +1,147 @@
+-- Laws of the output lines
+use Prim.Native.Nat.{ℕ, zero, suc, _+_, _*_, _^_, _≤_, _<_}
+use mathlib.Core.Path.{_≡_, refl, sym, ap, subst, _∙_}
+use mathlib.Core.List.{List, [], _∷_, _++_, append-assoc, append-nil}
+use native.Mathlib.Nat.{pow-suc, pow-zero}
+use native.Mathlib.Omega.{arith}
+use lib.ListN.{length, getD, set, take, drop, length-append, length-drop}
+use lib.Seq.{sets, drop-cons, drop-drop, take-add, take-suc, length-take-le}
+use Rattle.ground.specs.Bytes.{number}
+use Rattle.rules.specs.Record.{slotsFrom, readRecord}
+use Rattle.text.specs.Parts.{newline, space}
+use Rattle.text.specs.Numbers.{decimalOf}
+use Rattle.text.specs.Output.{pasted, Put, Counts, scaleWord, scaleLine, refusedWord, refusedLine, spaced, recordLine, recordLines}
+use Rattle.text.proofs.Pastes.{paste-then, paste-none, length-pasted}
+use Rattle.text.proofs.Decimals.{digits-most, digits-few}
+
+-- one after the other
+pub put-then : (l l₁ l₂ : List ℕ) (at n₁ n₂ : ℕ) (v w : List ℕ) → at + length v ≤ length l → Put l at v l₁ n₁ → Put l₁ n₁ w l₂ n₂ → Put l at (v ++ w) l₂ n₂
+put-then l l₁ l₂ at n₁ n₂ v w h p q =
+    (q .0 ∙ paste-then l l₁ at n₁ v w h (p .0) (p .1), omega (arith, p .1, q .1, length-append v w))
+
+-- put under another name
+pub put-as : (l l₁ : List ℕ) (at n₁ : ℕ) (v w : List ℕ) → v ≡ w → Put l at v l₁ n₁ → Put l at w l₁ n₁
+put-as l l₁ at n₁ v w e p = subst (λ (x : List ℕ). Put l at x l₁ n₁) e p
+
+pub counted : (l : List ℕ) (n : ℕ) → n ≤ length l → Counts n l
+counted l n h = (h, sym (length-take-le n l h))
+
+-- what was put at the start can be lent as a part
+pub put-counts : (l l₁ v : List ℕ) (n : ℕ) → length v ≤ length l → Put l 0 v l₁ n → Counts n l₁
+put-counts l l₁ v n h p =
+    let e : length l₁ ≡ length l = ap length (p .0) ∙ length-pasted l 0 v (omega arith) in
+    counted l₁ n (omega (arith, p .1))
+
+-- a number's bytes: two, and one half after the other
+pub number-two : (r : List ℕ) (at : ℕ) → at + 2 ≤ length r → number (take 2 (drop at r)) ≡ getD r at 0 + 256 * getD r (at + 1) 0
+unfolding number
+number-two r at h =
+    let e : suc at ≡ at + 1 = omega arith in
+    let d : drop at r ≡ getD r at 0 ∷ getD r (at + 1) 0 ∷ drop (suc (at + 1)) r =
+    drop-cons r at 0 (omega arith) ∙ ap (λ (n : ℕ). getD r at 0 ∷ drop n r) e ∙ ap (λ (l : List ℕ). getD r at 0 ∷ l) (drop-cons r (at + 1) 0 (omega arith)) in
+    ap (λ (l : List ℕ). number (take 2 l)) d ∙ omega arith
+
+pub number-append : (a b : List ℕ) → number (a ++ b) ≡ number a + 256 ^ length a * number b
+unfolding number
+number-append [] b = omega (arith, ap (λ (n : ℕ). n * number b) (pow-zero 256))
+number-append (x ∷ a) b =
+    let e : 256 ^ suc (length a) * number b ≡ 256 * (256 ^ length a * number b) = omega (arith, ap (λ (n : ℕ). n * number b) (pow-suc 256 (length a))) in
+    omega (arith, ap (λ (n : ℕ). 256 * n) (number-append a b))
+
+pub number-halves : (r : List ℕ) (at n k : ℕ) → at + n ≤ length r → number (take (n + k) (drop at r)) ≡ number (take n (drop at r)) + 256 ^ n * number (take k (drop (at + n) r))
+number-halves r at n k h =
+    let m : length (take n (drop at r)) ≡ n = length-take-le n (drop at r) (omega (arith, length-drop at r)) in
+    ap number (take-add n k (drop at r))
+    ∙ number-append (take n (drop at r)) (take k (drop n (drop at r)))
+    ∙ ap (λ (j : ℕ). number (take n (drop at r)) + 256 ^ j * number (take k (drop n (drop at r)))) m
+    ∙ ap (λ (l : List ℕ). number (take n (drop at r)) + 256 ^ n * number (take k l)) (drop-drop n at r)
+
+-- the slots
+pub length-slots : (n : ℕ) (b : List ℕ) → length (slotsFrom n b) ≡ n
+unfolding slotsFrom
+length-slots zero b = refl
+length-slots (suc n) b = ap suc (length-slots n (drop 2 b))
+
+pub slot-at : (n k : ℕ) (b : List ℕ) → k < n → getD (slotsFrom n b) k 0 ≡ number (take 2 (drop (2 * k) b))
+unfolding slotsFrom
+slot-at zero k b h = absurd (omega arith)
+slot-at (suc n) zero b h = refl
+slot-at (suc n) (suc k) b h =
+    let e : 2 + 2 * k ≡ 2 * suc k = omega arith in
+    slot-at n k (drop 2 b) (omega arith) ∙ ap (λ (l : List ℕ). number (take 2 l)) (drop-drop (2 * k) 2 b ∙ ap (λ (j : ℕ). drop j b) e)
+
+spaced-append : (a b : List ℕ) → spaced (a ++ b) ≡ spaced a ++ spaced b
+unfolding spaced
+spaced-append [] b = refl
+spaced-append (x ∷ a) b = ap (λ (l : List ℕ). (space ∷ decimalOf x) ++ l) (spaced-append a b) ∙ sym (append-assoc (space ∷ decimalOf x) (spaced a) (spaced b))
+
+pub spaced-more : (xs : List ℕ) (k : ℕ) → k < length xs → spaced (take k xs) ++ (space ∷ decimalOf (getD xs k 0)) ≡ spaced (take (k + 1) xs)
+unfolding spaced
+spaced-more xs k h =
+    let e : suc k ≡ k + 1 = omega arith in
+    let one : spaced (getD xs k 0 ∷ []) ≡ space ∷ decimalOf (getD xs k 0) = append-nil (space ∷ decimalOf (getD xs k 0)) in
+    ap (λ (l : List ℕ). spaced (take k xs) ++ l) (sym one)
+    ∙ sym (spaced-append (take k xs) (getD xs k 0 ∷ []))
+    ∙ ap spaced (sym (take-suc xs k 0 h) ∙ ap (λ (j : ℕ). take j xs) e)
+
+-- how long a number may be
+pub decimal-most : (x : ℕ) → length (decimalOf x) ≤ 20
+decimal-most x = digits-most 20 x
+
+pub decimal-short : (x : ℕ) → x < 65536 → length (decimalOf x) ≤ 5
+decimal-short x h = digits-few 20 5 x (omega arith, omega arith)
+
+-- a word, byte by byte
+pub word-turn : (l w : List ℕ) (at i : ℕ) → i < length w → sets l (at + i) (drop i w) ≡ sets (set l (at + i) (getD w i 0)) (at + (i + 1)) (drop (i + 1) w)
+word-turn l w at i h =
+    let e : suc (at + i) ≡ at + (i + 1) = omega arith in
+    let f : suc i ≡ i + 1 = omega arith in
+    ap (sets l (at + i)) (drop-cons w i 0 h)
+    ∙ ap (λ (n : ℕ). sets (set l (at + i) (getD w i 0)) n (drop (suc i) w)) e
+    ∙ ap (λ (n : ℕ). sets (set l (at + i) (getD w i 0)) (at + (i + 1)) (drop n w)) f
+
+-- the line of a record, as it is put
+pub record-line : (m place : ℕ) (room : List ℕ)
+    → decimalOf (number (take 8 (drop place room))) ++ (space ∷ decimalOf (number (take 8 (drop (place + 8) room)))) ++ spaced (take m (slotsFrom 16 (drop (place + 16) room))) ++ (newline ∷ [])
+    ≡ recordLine m (readRecord (drop place room))
+unfolding readRecord spaced
+record-line m place room =
+    let d = decimalOf (number (take 8 (drop place room))) in
+    let s : List ℕ → List ℕ → List ℕ = λ a b. d ++ ((space ∷ decimalOf (number (take 8 a))) ++ spaced (take m (slotsFrom 16 b))) ++ (newline ∷ []) in
+    ap (λ (l : List ℕ). l ++ (newline ∷ []))
+    (append-assoc d (space ∷ decimalOf (number (take 8 (drop (place + 8) room)))) (spaced (take m (slotsFrom 16 (drop (place + 16) room)))))
+    ∙ ap (λ (a : List ℕ). s a (drop (place + 16) room)) (sym (drop-drop 8 place room))
+    ∙ ap (λ (b : List ℕ). s (drop 8 (drop place room)) b) (sym (drop-drop 16 place room))
+
+-- what is left to put of the records, after one
+pub records-turn : (l l₁ room : List ℕ) (at n₁ m j i : ℕ) → 0 < j → at + length (recordLine m (readRecord (drop (48 * i) room))) ≤ length l
+    → Put l at (recordLine m (readRecord (drop (48 * i) room))) l₁ n₁
+    → (k : ℕ) × (j ≡ k + 1) × (pasted l at (recordLines m j (drop (48 * i) room)) ≡ pasted l₁ n₁ (recordLines m k (drop (48 * (i + 1)) room)))
+    × (at + length (recordLines m j (drop (48 * i) room)) ≡ n₁ + length (recordLines m k (drop (48 * (i + 1)) room)))
+unfolding recordLines
+records-turn l l₁ room at n₁ m zero i h r p = absurd (omega arith)
+records-turn l l₁ room at n₁ m (suc k) i h r p =
+    let v = recordLine m (readRecord (drop (48 * i) room)) in
+    let c : 48 * i + 48 ≡ 48 * (i + 1) = omega arith in
+    let e : recordLines m k (drop 48 (drop (48 * i) room)) ≡ recordLines m k (drop (48 * (i + 1)) room) =
+    ap (recordLines m k) (drop-drop 48 (48 * i) room ∙ ap (λ (j : ℕ). drop j room) c) in
+    let w = recordLines m k (drop (48 * (i + 1)) room) in (
+      k,
+      omega arith,
+      ap (λ (x : List ℕ). pasted l at (v ++ x)) e ∙ sym (paste-then l l₁ at n₁ v w r (p .0) (p .1)),
+      omega (arith, ap (λ (x : List ℕ). length (v ++ x)) e, length-append v w, p .1),
+    )
+
+pub records-none : (l room : List ℕ) (at m j : ℕ) → j ≡ 0 → (pasted l at (recordLines m j room) ≡ l) × (length (recordLines m j room) ≡ 0)
+unfolding recordLines
+records-none l room at m j e =
+    (ap (λ (k : ℕ). pasted l at (recordLines m k room)) e ∙ paste-none l at, ap (λ (k : ℕ). length (recordLines m k room)) e)
+
+-- how long the lines may be
+pub scale-short : (x : ℕ) → length (scaleLine x) ≤ 27
+scale-short x =
+    omega (arith, length-append (scaleWord ++ decimalOf x) (newline ∷ []), length-append scaleWord (decimalOf x), decimal-most x)
+
+pub refused-short : (n line : ℕ) → length (refusedLine n line) ≤ 50
+refused-short n line =
+    omega (arith, length-append (refusedWord ++ decimalOf n ++ (space ∷ decimalOf line)) (newline ∷ []), length-append (refusedWord ++ decimalOf n) (space ∷ decimalOf line), length-append refusedWord (decimalOf n), decimal-most n, decimal-most line)

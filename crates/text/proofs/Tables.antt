@@ -1,0 +1,173 @@
+-- The table's bytes read back as the rows of the text
+use Prim.Native.Nat.{ℕ, zero, suc, _+_, _*_, _/_, _≤_, _<_}
+use mathlib.Core.Path.{_≡_, refl, sym, ap, _∙_}
+use mathlib.Core.Bool.{Bool, true, false, _&&_}
+use mathlib.Core.List.{List, [], _∷_, _++_, map, append-assoc}
+use native.Mathlib.Nat.{mul-div-cancel-left}
+use native.Mathlib.Omega.{arith}
+use lib.Dec.{leb}
+use lib.ListN.{length, take, drop, length-append, length-take}
+use lib.Seq.{take-at, take-all, drop-at, drop-append-add}
+use Rattle.ground.specs.Tests.{if_then_else_, every}
+use Rattle.ground.specs.Bytes.{le, number}
+use Rattle.ground.specs.Sums.{upFrom}
+use Rattle.ground.proofs.Tests.{leb-says, of-true}
+use Rattle.ground.proofs.Bytes.{length-le, number-le}
+use Rattle.rules.specs.Table.{Row, wordAt, rowAt, rowsOf}
+use Rattle.text.specs.declared.Numeral.{Numeral}
+use Rattle.text.specs.declared.Numeral.the-variants.{Value, Nothing}
+use Rattle.text.specs.declared.Item.the-variants.{Processors, Task, Arrive, Until, Other}
+use Rattle.text.specs.Parts.{same, linesOf, partsOf}
+use Rattle.text.specs.Numbers.{isDigit, plain, spelled, numeralOf}
+use Rattle.text.specs.Lines.{processorsWord, taskWord, arriveWord, untilWord, withOne, withTwo, withThree, ofParts, itemOf}
+use Rattle.text.specs.Meaning.{itemsOf, rowBy, rowsIn, rowBytes, tableBytes, tableOf}
+use Rattle.text.proofs.Pastes.{length-row, length-table}
+
+-- every number of a row fits 32 bits
+abbrev pub RowFits : Row → Type 0
+RowFits r = (r .period ≤ 4294967295) × (r .exec ≤ 4294967295) × (r .deadline ≤ 4294967295)
+
+abbrev pub RowsFit : List Row → Type 0
+RowsFit [] = Unit {0}
+RowsFit (r ∷ rs) = RowFits r × RowsFit rs
+
+-- a word of four bytes in front, and the rest
+word-front : (x : ℕ) (l : List ℕ) → x ≤ 4294967295 → number (take 4 (le 4 x ++ l)) ≡ x
+word-front x l h = ap number (take-at (le 4 x) l 4 (length-le 4 x)) ∙ number-le 4 x (omega arith)
+
+-- the row that stands after `before`
+row-at : (before rest : List ℕ) (i : ℕ) (r : Row) → length before ≡ 12 * i → RowFits r → rowAt (before ++ (rowBytes r ++ rest)) i ≡ r
+row-at before rest i r e f =
+    let p = le 4 (r .period) in
+    let x = le 4 (r .exec) in
+    let d = le 4 (r .deadline) in
+    let all = before ++ (rowBytes r ++ rest) in
+    let a1 : rowBytes r ++ rest ≡ p ++ (x ++ (d ++ rest)) = append-assoc (p ++ x) d rest ∙ append-assoc p x (d ++ rest) in
+    let from : (n : ℕ) → drop (12 * i + n) all ≡ drop n (p ++ (x ++ (d ++ rest))) =
+    λ n. ap (λ (k : ℕ). drop (k + n) all) (sym e) ∙ drop-append-add before (rowBytes r ++ rest) n ∙ ap (drop n) a1 in
+    let w0 : wordAt (12 * i) all ≡ r .period =
+    ap (λ (k : ℕ). number (take 4 (drop k all))) (let z : 12 * i ≡ 12 * i + 0 = omega arith in z)
+    ∙ ap (λ (l : List ℕ). number (take 4 l)) (from 0)
+    ∙ word-front (r .period) (x ++ (d ++ rest)) (f .0) in
+    let w1 : wordAt (12 * i + 4) all ≡ r .exec =
+    ap (λ (l : List ℕ). number (take 4 l)) (from 4 ∙ drop-at p (x ++ (d ++ rest)) 4 (length-le 4 (r .period))) ∙ word-front (r .exec) (d ++ rest) (f .1) in
+    let px : length (p ++ x) ≡ 8 = omega (arith, length-append p x, length-le 4 (r .period), length-le 4 (r .exec)) in
+    let w2 : wordAt (12 * i + 8) all ≡ r .deadline =
+    ap (λ (l : List ℕ). number (take 4 l)) (from 8 ∙ ap (drop 8) (sym (append-assoc p x (d ++ rest))) ∙ drop-at (p ++ x) (d ++ rest) 8 px)
+    ∙ word-front (r .deadline) rest (f .2) in
+    let made : ℕ → ℕ → ℕ → Row = λ a b c. record { period = a; exec = b; deadline = c } in
+    ap (λ (a : ℕ). made a (wordAt (12 * i + 4) all) (wordAt (12 * i + 8) all)) w0
+    ∙ ap (λ (b : ℕ). made (r .period) b (wordAt (12 * i + 8) all)) w1
+    ∙ ap (λ (c : ℕ). made (r .period) (r .exec) c) w2
+
+rows-from : (before : List ℕ) (i : ℕ) (rs : List Row) → length before ≡ 12 * i → RowsFit rs → map (rowAt (before ++ tableBytes rs)) (upFrom i (length rs)) ≡ rs
+unfolding tableBytes upFrom
+rows-from before i [] e f = refl
+rows-from before i (r ∷ rs) e f =
+    let n : length (before ++ rowBytes r) ≡ 12 * suc i = omega (arith, length-append before (rowBytes r), length-row r) in
+    let rest = rows-from (before ++ rowBytes r) (suc i) rs n (f .1) in
+    ap (λ (x : Row). x ∷ map (rowAt (before ++ (rowBytes r ++ tableBytes rs))) (upFrom (suc i) (length rs))) (row-at before (tableBytes rs) i r e (f .0))
+    ∙ ap (λ (l : List ℕ). r ∷ map (rowAt l) (upFrom (suc i) (length rs))) (sym (append-assoc before (rowBytes r) (tableBytes rs)))
+    ∙ ap (λ (l : List Row). r ∷ l) rest
+
+-- the rows of a table's bytes
+pub table-rows : (rs : List Row) → RowsFit rs → rowsOf (tableBytes rs) ≡ rs
+unfolding rowsOf
+table-rows rs f =
+    let pos : 0 < 12 = omega arith in
+    let n : length (tableBytes rs) / 12 ≡ length rs = ap (λ (k : ℕ). k / 12) (length-table rs) ∙ mul-div-cancel-left (length rs) pos in
+    ap (λ (k : ℕ). map (rowAt (tableBytes rs)) (upFrom 0 k)) n ∙ rows-from [] 0 rs refl f
+
+-- each number of a text fits 32 bits
+abbrev NumeralFits : Numeral → Type 0
+NumeralFits (Value x) = x ≤ 4294967295
+NumeralFits Nothing = Unit {0}
+
+numeral-fits : (p : List ℕ) → NumeralFits (numeralOf p)
+unfolding numeralOf
+numeral-fits p = go (plain p) (every isDigit p) (leb (spelled p) 4294967295) (λ e. of-true (leb (spelled p) 4294967295) (leb-says (spelled p) 4294967295) e)
+  where
+    go : (a b c : Bool) → (c ≡ true → spelled p ≤ 4294967295) → NumeralFits (if a && (b && c) then Value (spelled p) else Nothing)
+    go true true true f = f refl
+    go true true false f = tt
+    go true false c f = tt
+    go false b c f = tt
+
+two-rows : (w : List ℕ) (a b : Numeral) → RowsFit (rowBy (withTwo w a b))
+two-rows w (Value x) (Value y) = go (same w arriveWord)
+  where
+    go : (t : Bool) → RowsFit (rowBy (if t then Arrive x y else Other))
+    go true = tt
+    go false = tt
+two-rows w (Value x) Nothing = tt
+two-rows w Nothing b = tt
+
+one-rows : (w : List ℕ) (a : Numeral) → RowsFit (rowBy (withOne w a))
+one-rows w (Value x) = go (same w processorsWord) (same w untilWord)
+  where
+    go : (t u : Bool) → RowsFit (rowBy (if t then Processors x else (if u then Until x else Other)))
+    go true u = tt
+    go false true = tt
+    go false false = tt
+one-rows w Nothing = tt
+
+three-rows : (w : List ℕ) (a b c : Numeral) → NumeralFits a → NumeralFits b → NumeralFits c → RowsFit (rowBy (withThree w a b c))
+three-rows w (Value x) (Value y) (Value z) f g h = go (same w taskWord)
+  where
+    go : (t : Bool) → RowsFit (rowBy (if t then Task x y z else Other))
+    go true = ((f, g, h), tt)
+    go false = tt
+three-rows w (Value x) (Value y) Nothing f g h = tt
+three-rows w (Value x) Nothing c f g h = tt
+three-rows w Nothing b c f g h = tt
+
+parts-rows : (ps : List (List ℕ)) → RowsFit (rowBy (ofParts ps))
+parts-rows [] = tt
+parts-rows (w ∷ []) = tt
+parts-rows (w ∷ a ∷ []) = one-rows w (numeralOf a)
+parts-rows (w ∷ a ∷ b ∷ []) = two-rows w (numeralOf a) (numeralOf b)
+parts-rows (w ∷ a ∷ b ∷ c ∷ []) = three-rows w (numeralOf a) (numeralOf b) (numeralOf c) (numeral-fits a) (numeral-fits b) (numeral-fits c)
+parts-rows (w ∷ a ∷ b ∷ c ∷ d ∷ l) = tt
+
+item-rows : (line : List ℕ) → RowsFit (rowBy (itemOf line))
+unfolding itemOf
+item-rows line = parts-rows (partsOf line)
+
+fit-append : (a b : List Row) → RowsFit a → RowsFit b → RowsFit (a ++ b)
+fit-append [] b f g = g
+fit-append (r ∷ a) b f g = (f .0, fit-append a b (f .1) g)
+
+fit-take : (n : ℕ) (rs : List Row) → RowsFit rs → RowsFit (take n rs)
+fit-take zero [] f = tt
+fit-take zero (r ∷ rs) f = tt
+fit-take (suc n) [] f = tt
+fit-take (suc n) (r ∷ rs) f = (f .0, fit-take n rs (f .1))
+
+lines-rows : (ls : List (List ℕ)) → RowsFit (rowsIn (map itemOf ls))
+unfolding rowsIn
+lines-rows [] = tt
+lines-rows (l ∷ ls) = fit-append (rowBy (itemOf l)) (rowsIn (map itemOf ls)) (item-rows l) (lines-rows ls)
+
+pub text-rows-fit : (text : List ℕ) → RowsFit (rowsIn (itemsOf text))
+unfolding itemsOf
+text-rows-fit text = lines-rows (linesOf text)
+
+-- the rows of the table that the text gives are the rows of the text, up to 129
+pub text-table : (text : List ℕ) → rowsOf (tableOf text) ≡ take 129 (rowsIn (itemsOf text))
+unfolding tableOf
+text-table text = table-rows (take 129 (rowsIn (itemsOf text))) (fit-take 129 (rowsIn (itemsOf text)) (text-rows-fit text))
+
+-- all of them, where there are at most 129
+pub text-table-whole : (text : List ℕ) → length (rowsIn (itemsOf text)) ≤ 129 → rowsOf (tableOf text) ≡ rowsIn (itemsOf text)
+text-table-whole text h = text-table text ∙ take-all 129 (rowsIn (itemsOf text)) h
+
+-- its length says how many rows there are; with more than 128 it is above 1,536
+pub text-table-length : (text : List ℕ) → length (tableOf text) ≡ 12 * length (take 129 (rowsIn (itemsOf text)))
+unfolding tableOf
+text-table-length text = length-table (take 129 (rowsIn (itemsOf text)))
+
+pub text-table-long : (text : List ℕ) → 128 < length (rowsIn (itemsOf text)) → length (tableOf text) ≡ 1548
+text-table-long text h = omega (arith, text-table-length text, length-take 129 (rowsIn (itemsOf text)))
+
+pub text-table-short : (text : List ℕ) → length (tableOf text) ≤ 1548
+text-table-short text = omega (arith, text-table-length text, length-take 129 (rowsIn (itemsOf text)))

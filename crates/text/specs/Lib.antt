@@ -1,0 +1,6 @@
+pub mod Parts
+pub mod Numbers
+pub mod Lines
+pub mod Form
+pub mod Meaning
+pub mod Output

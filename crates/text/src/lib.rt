@@ -1,0 +1,596 @@
+// The program's text: its form, what it means, and the lines that the program writes.
+ghost use mathlib.Core.Path.{_≡_};
+ghost use mathlib.Core.Bool.{true, false};
+ghost use Prim.Native.Nat.{ℕ, _+_, _-_, _*_, _≤_, _<_};
+ghost use lib.ListN.{length, take, drop, getD};
+ghost use Rattle.text.specs.Parts.{firstAt, same, splitBy, newline, space};
+ghost use Rattle.text.specs.Numbers.{isDigit, plain, numeralOf, decimalOf};
+ghost use Rattle.text.specs.Lines.{withOne, withTwo, withThree, itemOf};
+ghost use Rattle.text.specs.Form.{mayStand, stageAfter, formFrom, formOf};
+ghost use mathlib.Core.List.{[], _∷_, _++_};
+ghost use Rattle.ground.specs.Bytes.{le, number};
+ghost use Rattle.rules.specs.Record.{slotsFrom, readRecord};
+ghost use Rattle.text.specs.Meaning.{itemsOf, lineAt, processorsIn, isTask, rowLineOf, rowBy, tableOf};
+ghost use Rattle.text.specs.Output.{pasted, Put, Counts, RowsPut, scaleLine, refusedLine, spaced, recordLine, recordLines};
+
+// What a part is: a number, or none.
+pub enum Numeral {
+    Value(u64),
+    Nothing,
+}
+
+// What a line says.
+pub enum Item {
+    Processors(u64),
+    Task(u64, u64, u64),
+    Arrive(u64, u64),
+    Until(u64),
+    Other,
+}
+
+// Whether a text keeps the form; the number of the first line that breaks it, or 0 where the text is too long.
+pub enum Checked {
+    Good,
+    Broken(u64),
+}
+
+// A line of the text: what it says, and the place where the next one begins.
+pub struct Line {
+    pub item: Item,
+    pub next: usize,
+}
+
+// The place of the first `b` from `at` on, or the length where there is none.
+fn find(s: &[u8], at: usize, b: u8) -> usize
+    requires { ⌜ at ≤ length (now s) ⌝ }
+    ensures is { λ r. ⌜ r ≡ at + firstAt b (drop at (now (s .entry))) ⌝ }
+{
+    let mut i = at;
+    while i < s.len() {
+        if s[i] == b {
+            return i;
+        }
+        i += 1;
+    }
+    i
+}
+
+// Are these the bytes of the word?
+fn is_word(part: &[u8], word: &[u8]) -> bool
+    ensures is { λ r. ⌜ r ≡ same (now (part .entry)) (now (word .entry)) ⌝ }
+{
+    if part.len() != word.len() {
+        return false;
+    }
+    let mut i = 0;
+    while i < part.len() {
+        if part[i] != word[i] {
+            return false;
+        }
+        i += 1;
+    }
+    true
+}
+
+// Is the byte a digit?
+fn is_digit(b: u8) -> bool
+    ensures is { λ r. ⌜ r ≡ isDigit b ⌝ }
+{
+    if 48 <= b {
+        return b <= 57;
+    }
+    false
+}
+
+// The number that v and one digit more spell.
+fn with_digit(v: u64, b: u8) -> u64
+    requires digit { ⌜ (v ≤ 4294967295) × (isDigit b ≡ true) ⌝ }
+    ensures is { λ r. ⌜ r ≡ 10 * v + (b - 48) ⌝ }
+{
+    let d = b - 48;
+    10 * v + d as u64
+}
+
+// Has the part a byte, and no zero in front of others?
+fn is_plain(part: &[u8]) -> bool
+    ensures is { λ r. ⌜ r ≡ plain (now (part .entry)) ⌝ }
+{
+    let n = part.len();
+    if n == 0 {
+        return false;
+    }
+    if n == 1 {
+        return true;
+    }
+    part[0] != 48
+}
+
+// The number that the part is, if it is one.
+pub fn number(part: &[u8]) -> Numeral
+    ensures is { λ r. ⌜ r ≡ numeralOf (now (part .entry)) ⌝ }
+{
+    if !is_plain(part) {
+        return Numeral::Nothing;
+    }
+    let mut v: u64 = 0;
+    let mut i = 0;
+    while i < part.len() {
+        let b = part[i];
+        if !is_digit(b) {
+            return Numeral::Nothing;
+        }
+        v = with_digit(v, b);
+        if 4294967295 < v {
+            return Numeral::Nothing;
+        }
+        i += 1;
+    }
+    Numeral::Value(v)
+}
+
+// A word and one number.
+fn with_one(word: &[u8], a: &[u8]) -> Item
+    ensures is { λ r. ⌜ r ≡ withOne (now (word .entry)) (numeralOf (now (a .entry))) ⌝ }
+{
+    let n = number(a);
+    let Numeral::Value(x) = n else {
+        return Item::Other;
+    };
+    if is_word(word, b"processors") {
+        return Item::Processors(x);
+    }
+    if is_word(word, b"until") {
+        return Item::Until(x);
+    }
+    Item::Other
+}
+
+// A word and two numbers.
+fn with_two(word: &[u8], a: &[u8], b: &[u8]) -> Item
+    ensures is { λ r. ⌜ r ≡ withTwo (now (word .entry)) (numeralOf (now (a .entry))) (numeralOf (now (b .entry))) ⌝ }
+{
+    let n = number(a);
+    let Numeral::Value(x) = n else {
+        return Item::Other;
+    };
+    let k = number(b);
+    let Numeral::Value(y) = k else {
+        return Item::Other;
+    };
+    if is_word(word, b"arrive") {
+        return Item::Arrive(x, y);
+    }
+    Item::Other
+}
+
+// A word and three numbers.
+fn with_three(word: &[u8], a: &[u8], b: &[u8], c: &[u8]) -> Item
+    ensures is { λ r. ⌜ r ≡ withThree (now (word .entry)) (numeralOf (now (a .entry))) (numeralOf (now (b .entry))) (numeralOf (now (c .entry))) ⌝ }
+{
+    let n = number(a);
+    let Numeral::Value(x) = n else {
+        return Item::Other;
+    };
+    let k = number(b);
+    let Numeral::Value(y) = k else {
+        return Item::Other;
+    };
+    let l = number(c);
+    let Numeral::Value(z) = l else {
+        return Item::Other;
+    };
+    if is_word(word, b"task") {
+        return Item::Task(x, y, z);
+    }
+    Item::Other
+}
+
+// What a line says.
+fn read_line(line: &[u8]) -> Item
+    ensures is { λ r. ⌜ r ≡ itemOf (now (line .entry)) ⌝ }
+{
+    let n = line.len();
+    let a = find(line, 0, 32);
+    if n <= a {
+        return Item::Other;
+    }
+    let a1 = a + 1;
+    let b = find(line, a1, 32);
+    if n <= b {
+        return with_one(&line[..a], &line[a1..b]);
+    }
+    let b1 = b + 1;
+    let c = find(line, b1, 32);
+    if n <= c {
+        return with_two(&line[..a], &line[a1..b], &line[b1..c]);
+    }
+    let c1 = c + 1;
+    let d = find(line, c1, 32);
+    if n <= d {
+        return with_three(&line[..a], &line[a1..b], &line[b1..c], &line[c1..d]);
+    }
+    Item::Other
+}
+
+// May such a line stand at this stage of the text?
+fn may_stand(stage: u64, item: Item) -> bool
+    ensures is { λ r. ⌜ r ≡ mayStand stage item ⌝ }
+{
+    match item {
+        Item::Processors(_) => stage <= 0,
+        Item::Task(_, _, _) => stage <= 1,
+        Item::Arrive(_, _) => stage <= 2,
+        Item::Until(_) => stage <= 2,
+        Item::Other => false,
+    }
+}
+
+// The stage of the text after such a line.
+fn stage_after(item: Item) -> u64
+    ensures is { λ r. ⌜ r ≡ stageAfter item ⌝ }
+{
+    match item {
+        Item::Processors(_) => 1,
+        Item::Task(_, _, _) => 1,
+        Item::Arrive(_, _) => 2,
+        Item::Until(_) => 3,
+        Item::Other => 3,
+    }
+}
+
+// The form of all lines.
+fn form_lines(s: &[u8]) -> Checked
+    requires short { ⌜ length (now s) ≤ 65536 ⌝ }
+    ensures is { λ r. ⌜ r ≡ formFrom 0 1 (splitBy newline (now (s .entry))) ⌝ }
+{
+    let mut stage: u64 = 0;
+    let mut line: u64 = 1;
+    let mut at: usize = 0;
+    while at < s.len() {
+        let end = find(s, at, 10);
+        if s.len() <= end {
+            return Checked::Broken(line);
+        }
+        let item = read_line(&s[at..end]);
+        if !may_stand(stage, item) {
+            return Checked::Broken(line);
+        }
+        stage = stage_after(item);
+        line += 1;
+        at = end + 1;
+    }
+    if stage == 3 {
+        return Checked::Good;
+    }
+    Checked::Broken(line)
+}
+
+// The form of the whole text.
+pub fn form(s: &[u8]) -> Checked
+    ensures is { λ r. ⌜ r ≡ formOf (now (s .entry)) ⌝ }
+{
+    if 65536 < s.len() {
+        return Checked::Broken(0);
+    }
+    form_lines(s)
+}
+
+// The line that begins at a place of the text.
+pub fn line_at(s: &[u8], at: usize) -> Line
+    ensures is { λ r. ⌜ r ≡ lineAt (now (s .entry)) at ⌝ }
+{
+    let n = s.len();
+    if n <= at {
+        return Line {
+            item: Item::Other,
+            next: n,
+        };
+    }
+    let end = find(s, at, 10);
+    if n <= end {
+        return Line {
+            item: Item::Other,
+            next: n,
+        };
+    }
+    let item = read_line(&s[at..end]);
+    Line {
+        item,
+        next: end + 1,
+    }
+}
+
+// The number of processors where the text does not say it.
+const PROCESSORS_IF_ABSENT: u64 = 4;
+
+// The number of processors that the text asks for.
+pub fn processors(s: &[u8]) -> u64
+    ensures is { λ r. ⌜ r ≡ processorsIn (itemsOf (now (s .entry))) ⌝ }
+{
+    let line = line_at(s, 0);
+    let item = line.item;
+    match item {
+        Item::Processors(m) => m,
+        Item::Task(_, _, _) => PROCESSORS_IF_ABSENT,
+        Item::Arrive(_, _) => PROCESSORS_IF_ABSENT,
+        Item::Until(_) => PROCESSORS_IF_ABSENT,
+        Item::Other => PROCESSORS_IF_ABSENT,
+    }
+}
+
+// Is it a task line?
+fn is_task(item: Item) -> bool
+    ensures is { λ r. ⌜ r ≡ isTask item ⌝ }
+{
+    match item {
+        Item::Processors(_) => false,
+        Item::Task(_, _, _) => true,
+        Item::Arrive(_, _) => false,
+        Item::Until(_) => false,
+        Item::Other => false,
+    }
+}
+
+// The text line of the row with this number; 0 for row 0 and for a row that is not there.
+pub fn row_line(s: &[u8], row: u64) -> u64
+    ensures is { λ r. ⌜ r ≡ rowLineOf (now (s .entry)) row ⌝ }
+{
+    if row == 0 {
+        return 0;
+    }
+    let mut left = row - 1;
+    let mut here: u64 = 1;
+    let mut at: usize = 0;
+    while at < s.len() {
+        let l = line_at(s, at);
+        let item = l.item;
+        if is_task(item) {
+            if left == 0 {
+                return here;
+            }
+            left -= 1;
+        }
+        here += 1;
+        at = l.next;
+    }
+    0
+}
+
+// A number's four least bytes, least byte first.
+fn put32(out: &mut [u8], at: usize, x: u64)
+    requires room { ⌜ at + 4 ≤ length (now out) ⌝ }
+    ensures is { λ _. ⌜ now (out .exit) ≡ pasted (now (out .entry)) at (le 4 x) ⌝ }
+{
+    let mut i: usize = 0;
+    let mut y = x;
+    while i < 4 {
+        out[at + i] = (y % 256) as u8;
+        y = y / 256;
+        i += 1;
+    }
+}
+
+// A row's twelve bytes.
+fn put_row(out: &mut [u8], at: usize, p: u64, e: u64, d: u64)
+    requires room { ⌜ at + 12 ≤ length (now out) ⌝ }
+    ensures is { λ _. ⌜ now (out .exit) ≡ pasted (now (out .entry)) at (le 4 p ++ le 4 e ++ le 4 d) ⌝ }
+{
+    put32(out, at, p);
+    put32(out, at + 4, e);
+    put32(out, at + 8, d);
+}
+
+// The row of a task line, after k rows, as long as there are fewer than 129; the number of rows then.
+fn put_task(out: &mut [u8], k: usize, p: u64, e: u64, d: u64) -> usize
+    requires room { ⌜ (k ≤ 129) × (1548 ≤ length (now out)) ⌝ }
+    ensures is { λ r. ⌜ RowsPut (now (out .entry)) k (rowBy (Item.Task p e d)) (now (out .exit)) r ⌝ }
+{
+    if 129 <= k {
+        return k;
+    }
+    put_row(out, 12 * k, p, e, d);
+    k + 1
+}
+
+// The row that a line gives, if any, after k rows.
+fn put_item(out: &mut [u8], k: usize, item: Item) -> usize
+    requires room { ⌜ (k ≤ 129) × (1548 ≤ length (now out)) ⌝ }
+    ensures is { λ r. ⌜ RowsPut (now (out .entry)) k (rowBy item) (now (out .exit)) r ⌝ }
+{
+    match item {
+        Item::Processors(_) => k,
+        Item::Task(p, e, d) => put_task(out, k, p, e, d),
+        Item::Arrive(_, _) => k,
+        Item::Until(_) => k,
+        Item::Other => k,
+    }
+}
+
+// The table of the text, of at most 129 rows; the number of its bytes.
+pub fn table(s: &[u8], out: &mut [u8]) -> usize
+    requires room { ⌜ 1548 ≤ length (now out) ⌝ }
+    ensures is { λ r. ⌜ Put (now (out .entry)) 0 (tableOf (now (s .entry))) (now (out .exit)) r ⌝ }
+    ensures counts { λ r. ⌜ Counts r (now (out .exit)) ⌝ }
+{
+    let mut k: usize = 0;
+    let mut at: usize = 0;
+    while at < s.len() {
+        let line = line_at(s, at);
+        let item = line.item;
+        k = put_item(out, k, item);
+        at = line.next;
+    }
+    12 * k
+}
+
+// How many digits the number has.
+fn digit_count(x: u64) -> usize
+    ensures is { λ r. ⌜ r ≡ length (decimalOf x) ⌝ }
+{
+    let mut n: usize = 0;
+    let mut y = x;
+    while 10000 <= y {
+        y = y / 10000;
+        n += 4;
+    }
+    if y < 10 {
+        return n + 1;
+    }
+    if y < 100 {
+        return n + 2;
+    }
+    if y < 1000 {
+        return n + 3;
+    }
+    n + 4
+}
+
+// A number in decimal digits at a place; the next place.
+pub fn put_decimal(out: &mut [u8], at: usize, x: u64) -> usize
+    requires room { ⌜ at + length (decimalOf x) ≤ length (now out) ⌝ }
+    ensures is { λ r. ⌜ Put (now (out .entry)) at (decimalOf x) (now (out .exit)) r ⌝ }
+{
+    let n = digit_count(x);
+    let mut i = n;
+    let mut y = x;
+    while 0 < i {
+        i -= 1;
+        out[at + i] = 48 + (y % 10) as u8;
+        y = y / 10;
+    }
+    at + n
+}
+
+// A byte at a place; the next place.
+fn put_byte(out: &mut [u8], at: usize, b: u8) -> usize
+    requires room { ⌜ at < length (now out) ⌝ }
+    ensures is { λ r. ⌜ Put (now (out .entry)) at (b ∷ []) (now (out .exit)) r ⌝ }
+{
+    out[at] = b;
+    at + 1
+}
+
+// Fixed bytes at a place; the next place.
+fn put_bytes(out: &mut [u8], at: usize, word: &[u8]) -> usize
+    requires room { ⌜ at + length (now word) ≤ length (now out) ⌝ }
+    ensures is { λ r. ⌜ Put (now (out .entry)) at (now (word .entry)) (now (out .exit)) r ⌝ }
+{
+    let mut i: usize = 0;
+    while i < word.len() {
+        out[at + i] = word[i];
+        i += 1;
+    }
+    at + i
+}
+
+// A space and a number at a place; the next place.
+fn put_spaced(out: &mut [u8], at: usize, x: u64) -> usize
+    requires room { ⌜ at + 1 + length (decimalOf x) ≤ length (now out) ⌝ }
+    ensures is { λ r. ⌜ Put (now (out .entry)) at (space ∷ decimalOf x) (now (out .exit)) r ⌝ }
+{
+    let next = put_byte(out, at, 32);
+    put_decimal(out, next, x)
+}
+
+// The line "scale L"; its length.
+pub fn put_scale(out: &mut [u8], scale: u64) -> usize
+    requires room { ⌜ 27 ≤ length (now out) ⌝ }
+    ensures is { λ r. ⌜ Put (now (out .entry)) 0 (scaleLine scale) (now (out .exit)) r ⌝ }
+    ensures counts { λ r. ⌜ Counts r (now (out .exit)) ⌝ }
+{
+    let a = put_bytes(out, 0, b"scale ");
+    let b = put_decimal(out, a, scale);
+    put_byte(out, b, 10)
+}
+
+// The line "refused N LINE"; its length.
+pub fn put_refused(out: &mut [u8], number: u64, line: u64) -> usize
+    requires room { ⌜ 50 ≤ length (now out) ⌝ }
+    ensures is { λ r. ⌜ Put (now (out .entry)) 0 (refusedLine number line) (now (out .exit)) r ⌝ }
+    ensures counts { λ r. ⌜ Counts r (now (out .exit)) ⌝ }
+{
+    let a = put_bytes(out, 0, b"refused ");
+    let b = put_decimal(out, a, number);
+    let c = put_spaced(out, b, line);
+    put_byte(out, c, 10)
+}
+
+// A byte as a number of 64 bits.
+fn wide(b: u8) -> u64
+    ensures is { λ r. ⌜ (r ≡ b) × (r < 256) ⌝ }
+{
+    b as u64
+}
+
+// The number that two bytes spell.
+fn read16(room: &[u8], at: usize) -> u64
+    requires within { ⌜ at + 2 ≤ length (now room) ⌝ }
+    ensures is { λ r. ⌜ (r ≡ number (take 2 (drop at (now (room .entry))))) × (r < 65536) ⌝ }
+{
+    let a = wide(room[at]);
+    let b = wide(room[at + 1]);
+    a + 256 * b
+}
+
+// The number that four bytes spell.
+fn read32(room: &[u8], at: usize) -> u64
+    requires within { ⌜ at + 4 ≤ length (now room) ⌝ }
+    ensures is { λ r. ⌜ (r ≡ number (take 4 (drop at (now (room .entry))))) × (r < 4294967296) ⌝ }
+{
+    let a = read16(room, at);
+    let b = read16(room, at + 2);
+    a + 65536 * b
+}
+
+// The number that eight bytes spell.
+fn read64(room: &[u8], at: usize) -> u64
+    requires within { ⌜ at + 8 ≤ length (now room) ⌝ }
+    ensures is { λ r. ⌜ r ≡ number (take 8 (drop at (now (room .entry)))) ⌝ }
+{
+    let a = read32(room, at);
+    let b = read32(room, at + 4);
+    a + 4294967296 * b
+}
+
+// The first m slots from place `from` of the room, each after a space; the next place.
+fn put_slots(out: &mut [u8], at: usize, room: &[u8], from: usize, m: usize) -> usize
+    requires room { ⌜ (m ≤ 16) × (from + 32 ≤ length (now room)) × (at + 6 * m ≤ length (now out)) ⌝ }
+    ensures is { λ r. ⌜ Put (now (out .entry)) at (spaced (take m (slotsFrom 16 (drop from (now (room .entry)))))) (now (out .exit)) r × (r ≤ at + 6 * m) ⌝ }
+{
+    let mut next = at;
+    let mut k: usize = 0;
+    while k < m {
+        let x = read16(room, from + 2 * k);
+        next = put_spaced(out, next, x);
+        k += 1;
+    }
+    next
+}
+
+// The line of the record at a place of the room: from, to, then m task numbers; the next place.
+fn put_line(out: &mut [u8], at: usize, room: &[u8], place: usize, m: usize) -> usize
+    requires room { ⌜ (m ≤ 16) × (place + 48 ≤ length (now room)) × (at + 138 ≤ length (now out)) ⌝ }
+    ensures is { λ r. ⌜ Put (now (out .entry)) at (recordLine m (readRecord (drop place (now (room .entry))))) (now (out .exit)) r × (r ≤ at + 138) ⌝ }
+{
+    let from = read64(room, place);
+    let to = read64(room, place + 8);
+    let a = put_decimal(out, at, from);
+    let b = put_spaced(out, a, to);
+    let c = put_slots(out, b, room, place + 16, m);
+    put_byte(out, c, 10)
+}
+
+// The lines of n records of 48 bytes each; their length.
+pub fn put_records(out: &mut [u8], room: &[u8], n: usize, m: usize) -> usize
+    requires room { ⌜ (m ≤ 16) × (48 * n ≤ length (now room)) × (138 * n ≤ length (now out)) ⌝ }
+    ensures is { λ r. ⌜ Put (now (out .entry)) 0 (recordLines m n (now (room .entry))) (now (out .exit)) r ⌝ }
+    ensures counts { λ r. ⌜ Counts r (now (out .exit)) ⌝ }
+{
+    let mut at: usize = 0;
+    let mut i: usize = 0;
+    while i < n {
+        at = put_line(out, at, room, 48 * i, m);
+        i += 1;
+    }
+    at
+}
