@@ -2,11 +2,11 @@
 use mathlib.Core.Path.{_≡_, refl, sym, _∙_, ap, subst}
 use mathlib.Core.Bool.{Bool, true, false, not}
 use mathlib.Core.Logic.{_⊎_, inl, inr}
-use mathlib.Core.List.{List, [], _∷_, _++_}
+use mathlib.Core.List.{List, [], _∷_, _++_, map}
 use Prim.Native.Nat.{ℕ, zero, suc, _+_, _*_, _-_, _/_, _≤_, _<_}
 use native.Mathlib.Omega.{arith}
 use lib.Dec.{leb, ltb, eqb}
-use lib.ListN.{length, drop, length-replicate}
+use lib.ListN.{length, take, drop, length-replicate}
 use Rattle.rules.specs.declared.Answer.{Answer}
 use Rattle.rules.specs.declared.Answer.the-variants.{Done, Processors, TableLength, RowRange, RowExecution, Scale, Shares, TaskNumber, BetweenTicks, TooSoon, HorizonPastClock, HorizonNotLater, RoomTooShort, NotTogether, TextForm}
 use Rattle.plane.specs.declared.State.{State}
@@ -19,7 +19,10 @@ use Rattle.ground.specs.Tests.{if_then_else_}
 use Rattle.rules.specs.Admission.{admitVerdict, admit}
 use Rattle.rules.specs.Answers.{numberOf, isDone}
 use Rattle.rules.specs.Reasons.{AdmitReason, StepReason}
-use Rattle.rules.specs.Record.{recordBytes}
+use Rattle.rules.specs.Record.{Record, recordBytes}
+use Rattle.rules.specs.Computed.{computed}
+use Rattle.rules.specs.Figures.{tableOf, tableP1, line, listing}
+use Rattle.rules.proofs.Figures.{figures}
 use Rattle.rules.specs.Table.{rowsOf}
 use Rattle.rules.proofs.Demands.{Good, by-answer, admit-passes, run-of-good}
 use Rattle.rules.proofs.Keeping.{not-both}
@@ -86,6 +89,28 @@ demand-3 bytes m d cs =
   where
     run-is : (bytes : List ℕ) (m : ℕ) (cs : List Rule.Call) → Rule.runOf bytes m cs ≡ Rule.perform-all (Rule.starting (admit bytes m .state)) cs
     run-is bytes m cs = unfold Rule.runOf in refl
+
+-- the calls hand out the rules' records
+records-same : (bytes : List ℕ) (m : ℕ) → admitOf bytes m .answer ≡ Done → (cs : List Rule.Call)
+    → callingAll (record { state = admitOf bytes m .state; records = [] }) cs .records ≡ Rule.runOf bytes m cs .records
+unfolding Rule.runOf
+records-same bytes m d cs =
+    let w = admit-whole bytes m d in
+    calls-together cs (record { state = admitOf bytes m .state; records = [] }) (Rule.starting (admit bytes m .state)) (record { whole = w .0; same = w .1; records = refl }) .records
+
+-- P1's table is admitted
+admitted-P1 : admit (tableOf tableP1) 2 .answer ≡ Done
+unfolding computed
+admitted-P1 = refl
+
+pub met : Say.Met
+unfolding listing
+met =
+    let d = answer-same (tableOf tableP1) 2 .0 ∙ admitted-P1 in
+    record {
+      admitted = d;
+      records = ap (map (λ (r : Record). line (r .from) (r .to) (take 2 (r .slots)))) (records-same (tableOf tableP1) 2 d Say.callsP1) ∙ figures .listings .p1;
+    }
 
 -- DEMAND 2
 -- 13, and nothing else, where the state does not hold together

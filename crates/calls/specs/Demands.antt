@@ -2,9 +2,9 @@
 use mathlib.Core.Path.{_≡_}
 use mathlib.Core.Bool.{Bool, true, false}
 use mathlib.Core.Logic.{_⊎_}
-use mathlib.Core.List.{List, [], _∷_, _++_, foldl}
+use mathlib.Core.List.{List, [], _∷_, _++_, foldl, map}
 use Prim.Native.Nat.{ℕ, suc, _+_, _*_, _-_, _/_, _≤_, _<_}
-use lib.ListN.{length, getD, drop}
+use lib.ListN.{length, getD, take, drop}
 use Rattle.ground.specs.Tests.{if_then_else_, Says}
 use Rattle.rules.specs.declared.Answer.{Answer}
 use Rattle.rules.specs.declared.Answer.the-variants.{Done, NotTogether}
@@ -13,6 +13,7 @@ use Rattle.rules.specs.Admission.{admit}
 use Rattle.rules.specs.Record.{Record, readRecord}
 use Rattle.rules.specs.Calls.{arrive, step}
 use Rattle.rules.specs.Demands.{ran, Once}
+use Rattle.rules.specs.Figures.{tableOf, tableP1, towards, line}
 use Rattle.rules.specs.Run.{Call, arriveCall, stepCall}
 use Rattle.plane.specs.declared.State.{State}
 use Rattle.plane.specs.Machine.{shorterAt}
@@ -116,6 +117,17 @@ Serves r =
 abbrev pub Demand3 : Type 0
 Demand3 = (bytes : List ℕ) (m : ℕ) → admitOf bytes m .answer ≡ Done → (calls : List Call)
     → Serves (callingAll (record { state = admitOf bytes m .state; records = [] }) calls)
+
+abbrev pub callsP1 : List Call
+callsP1 = arriveCall 1 ∷ arriveCall 2 ∷ arriveCall 3 ∷ arriveCall 4 ∷ towards 3 ∷ towards 3 ∷ towards 3 ∷ towards 3 ∷ []
+
+-- and there are such runs: P1's table is admitted, and its calls hand out P1's records
+abbrev pub runP1 : Calls
+runP1 = callingAll (record { state = admitOf (tableOf tableP1) 2 .state; records = [] }) callsP1
+
+pub record Met : Type 0 where
+  pub admitted : admitOf (tableOf tableP1) 2 .answer ≡ Done
+  pub records : map (λ (r : Record). line (r .from) (r .to) (take 2 (r .slots))) (runP1 .records) ≡ line 0 24 (1 ∷ 2 ∷ []) ∷ line 24 27 (1 ∷ 3 ∷ []) ∷ line 27 36 (4 ∷ 3 ∷ []) ∷ []
 
 -- DEMAND 2: a call on a state that does not hold together is refused by 13; on one that does, it is the rules' call
 pub record Demand2 : Type 0 where
