@@ -1,0 +1,70 @@
+use mathlib.Core.Path.{_≡_, sym, _∙_, ap}
+use mathlib.Core.Bool.{true}
+use Rattle.rules.specs.Answers.{isDone}
+use Rattle.calls.specs.declared.Admitted.{Admitted}
+use Rattle.listing.proofs.Bounds.{admitted-most}
+use borrow.Author.Needs.{needs}
+use borrow.Author.Tests.{not-false}
+use Rattle.listing.proofs.run.Statement.{statement}
+use Rattle.listing.proofs.run.Tie as tie
+
+processors-requires : tie.Need-processors-requires
+processors-requires c κs = search needs
+
+slice-aggregate-table : tie.Need-slice-aggregate-table
+slice-aggregate-table c = search needs
+
+table-requires : tie.Need-table-requires
+table-requires c κs = search needs
+
+array-share-prefix-table : tie.Need-array-share-prefix-table
+array-share-prefix-table c = search needs
+
+slice-aggregate-admit : tie.Need-slice-aggregate-admit
+slice-aggregate-admit c = search needs
+
+admit-requires : tie.Need-admit-requires
+admit-requires c κs = search needs
+
+is-done-requires : tie.Need-is-done-requires
+is-done-requires c κs = search needs
+
+row-line-requires : tie.Need-row-line-requires
+row-line-requires c κs = search needs
+
+refuse-answer-requires : tie.Need-refuse-answer-requires
+refuse-answer-requires c κs = search needs
+
+returns : tie.Need-returns
+returns c = search needs
+
+write-scale-requires : tie.Need-write-scale-requires
+write-scale-requires c κs = search needs
+
+turns-requires : tie.Need-turns-requires
+turns-requires c κs =
+    let admitted = c .before .before .before .before .before .admit in
+    let answered : isDone (admitted .result .answer) ≡ true = sym (c .before .before .before .before .is-done .ensures) ∙ not-false _ (c .before .before .before .if1 .left) in
+    let most = admitted-most _ _ (sym (ap (λ (x : Admitted). isDone (x .answer)) (admitted .ensures)) ∙ answered) in
+    (search needs, most)
+
+returns-2 : tie.Need-returns-2
+returns-2 c = search needs
+
+pub run-spec : {M : Type 1} → statement M
+run-spec =
+    tie.close
+    (tie.spec
+    processors-requires
+    slice-aggregate-table
+    table-requires
+    array-share-prefix-table
+    slice-aggregate-admit
+    admit-requires
+    is-done-requires
+    row-line-requires
+    refuse-answer-requires
+    returns
+    write-scale-requires
+    turns-requires
+    returns-2)

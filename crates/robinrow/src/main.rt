@@ -1,0 +1,4 @@
+// The program: a text in, its listing out.
+fn main() {
+    listing::answer_input();
+}

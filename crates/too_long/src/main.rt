@@ -1,0 +1,4 @@
+// The program on a text of 65,537 bytes.
+fn main() {
+    listing::answer_input();
+}
