@@ -21,10 +21,10 @@ use Rattle.rules.specs.Answers.{numberOf, isDone}
 use Rattle.rules.specs.Reasons.{AdmitReason, StepReason}
 use Rattle.rules.specs.Record.{Record, recordBytes}
 use Rattle.rules.specs.Computed.{computed}
-use Rattle.rules.specs.Figures.{tableOf, tableP1, line, listing}
+use Rattle.rules.specs.Figures.{tableOf, tableP1, towards, line, listing}
 use Rattle.rules.proofs.Figures.{figures}
 use Rattle.rules.specs.Table.{rowsOf}
-use Rattle.rules.proofs.Demands.{Good, by-answer, admit-passes, run-of-good}
+use Rattle.rules.proofs.Demands.{by-answer, admit-passes, start-good}
 use Rattle.rules.proofs.Keeping.{not-both}
 use Rattle.rules.proofs.Refusing.{step-answers, admit-answers}
 use Rattle.table.specs.Tabled.{tableFrom, blankTable, tabledOf}
@@ -39,12 +39,13 @@ use Rattle.whole.proofs.Fresh.{fresh-view, fresh-sound, fresh-whole}
 use Rattle.whole.proofs.Keeping.{sized-by}
 use Rattle.calls.specs.Admit.{blankState, admitOf}
 use Rattle.calls.specs.Arrive.{taskIn, wholeTick, soonAgain, arriveAnswerOf, arriveOf}
-use Rattle.calls.specs.Demands.{Calls, OneOf, callingAll}
-use Rattle.calls.specs.Run.{runOf, runRoom}
+use Rattle.calls.specs.Demands.{Calls, OneOf, callingAll, starting}
+use Rattle.calls.specs.Run.{went, runOf, runRoom}
 use Rattle.calls.specs.Step.{movesAnswer, stepAnswerOf, stepOf, stepRoom}
 use Rattle.calls.proofs.Refining.{arrives, holds-whole, whole-holds, step-same}
 use Rattle.calls.proofs.Runs.{run-steps}
-use Rattle.calls.proofs.Serving.{calls-together, serves}
+use Rattle.calls.proofs.Serving.{Followed, plain, all-together, calls-followed, serves}
+use Rattle.calls.proofs.Went.{went-whole}
 
 -- DONE OR NOT
 not-done : (a : Answer) → ¬ (a ≡ Done) → isDone a ≡ false
@@ -78,30 +79,30 @@ admits bytes m = record {
 }
 
 -- DEMAND 3
+start-followed : (bytes : List ℕ) (m : ℕ) → admitOf bytes m .answer ≡ Done → Followed (starting bytes m)
+start-followed bytes m d =
+    let w = admit-whole bytes m d in
+    (Rule.starting (admit bytes m .state), record { whole = w .0; same = w .1; records = refl }, start-good bytes m (sym (answer-same bytes m .0) ∙ d))
+
 pub demand-3 : Say.Demand3
 demand-3 bytes m d cs =
-    let w = admit-whole bytes m d in
-    let r : admit bytes m .answer ≡ Done = sym (answer-same bytes m .0) ∙ d in
-    let start : Calls = record { state = admitOf bytes m .state; records = [] } in
-    let T = calls-together cs start (Rule.starting (admit bytes m .state)) (record { whole = w .0; same = w .1; records = refl }) in
-    let G = subst Good (run-is bytes m cs) (run-of-good bytes m r cs) in
-    serves (callingAll start cs) (Rule.perform-all (Rule.starting (admit bytes m .state)) cs) T G
-  where
-    run-is : (bytes : List ℕ) (m : ℕ) (cs : List Rule.Call) → Rule.runOf bytes m cs ≡ Rule.perform-all (Rule.starting (admit bytes m .state)) cs
-    run-is bytes m cs = unfold Rule.runOf in refl
+    let F = calls-followed cs (starting bytes m) (start-followed bytes m d) in
+    serves (callingAll (starting bytes m) cs) (F .0) (F .1) (F .2)
 
--- the calls hand out the rules' records
-records-same : (bytes : List ℕ) (m : ℕ) → admitOf bytes m .answer ≡ Done → (cs : List Rule.Call)
-    → callingAll (record { state = admitOf bytes m .state; records = [] }) cs .records ≡ Rule.runOf bytes m cs .records
+-- arrivals and steps hand out the rules' records
+records-same : (bytes : List ℕ) (m : ℕ) → admitOf bytes m .answer ≡ Done → (cs : List Rule.Call) → callingAll (starting bytes m) (map plain cs) .records ≡ Rule.runOf bytes m cs .records
 unfolding Rule.runOf
 records-same bytes m d cs =
     let w = admit-whole bytes m d in
-    calls-together cs (record { state = admitOf bytes m .state; records = [] }) (Rule.starting (admit bytes m .state)) (record { whole = w .0; same = w .1; records = refl }) .records
+    all-together cs (starting bytes m) (Rule.starting (admit bytes m .state)) (record { whole = w .0; same = w .1; records = refl }) .records
 
 -- P1's table is admitted
 admitted-P1 : admit (tableOf tableP1) 2 .answer ≡ Done
 unfolding computed
 admitted-P1 = refl
+
+abbrev ruleCallsP1 : List Rule.Call
+ruleCallsP1 = Rule.arriveCall 1 ∷ Rule.arriveCall 2 ∷ Rule.arriveCall 3 ∷ Rule.arriveCall 4 ∷ towards 3 ∷ towards 3 ∷ towards 3 ∷ towards 3 ∷ []
 
 pub met : Say.Met
 unfolding listing
@@ -109,7 +110,7 @@ met =
     let d = answer-same (tableOf tableP1) 2 .0 ∙ admitted-P1 in
     record {
       admitted = d;
-      records = ap (map (λ (r : Record). line (r .from) (r .to) (take 2 (r .slots)))) (records-same (tableOf tableP1) 2 d Say.callsP1) ∙ figures .listings .p1;
+      records = ap (map (λ (r : Record). line (r .from) (r .to) (take 2 (r .slots)))) (records-same (tableOf tableP1) 2 d ruleCallsP1) ∙ figures .listings .p1;
     }
 
 -- DEMAND 2
@@ -126,15 +127,16 @@ step-13 : (s : State) (h n : ℕ) → holdsOf s ≡ false → stepOf s h n .answ
 unfolding stepOf
 step-13 s h n e = moves-13 s h n e
 
-run-is-steps : (s : State) (h : ℕ) (room : List ℕ) → Sized s → runOf s h (length room) .answer ≡ Done
-    → (runOf s h (length room) .state ≡ Runs.steps (length room / 48) h s .state) × (runOf s h (length room) .records ≡ Runs.steps (length room / 48) h s .records)
-    × (runRoom s h room ≡ Runs.steps (length room / 48) h s .bytes ++ drop (length (Runs.steps (length room / 48) h s .bytes)) room)
-unfolding runOf runRoom
-run-is-steps s h room z d =
-    let W = whole-of s h (length room) z d in
-    let R = subst (StepReason (view s) h (length room)) (sym (step-same s h (length room) W) ∙ d) (step-answers (view s) h (length room)) in
-    let e = run-steps (length room / 48) h s W (R .2) in
-    (rw (d, e), rw (d, e), rw (d, e))
+run-is-steps : (s : State) (h : ℕ) (room : List ℕ) → Sized s → Say.RunSteps s h room
+unfolding runOf runRoom stepOf
+run-is-steps s h room z = record {
+  answer = refl;
+  done = λ d.
+      let W = whole-of s h (length room) z d in
+      let R = subst (StepReason (view s) h (length room)) (sym (step-same s h (length room) W) ∙ d) (step-answers (view s) h (length room)) in
+      let e = run-steps (length room / 48) h s W (R .2) in
+      (rw (d, e), rw (d, e), rw (d, e), rw d (whole-holds (went (length room / 48) h s .state) (went-whole (length room / 48) h s W (R .2))));
+}
   where
     whole-of : (s : State) (h n : ℕ) → Sized s → stepAnswerOf s h n ≡ Done → Whole s
     whole-of s h n z d = go (holdsOf s) refl

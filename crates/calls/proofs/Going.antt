@@ -1,40 +1,20 @@
 -- The loop of run: what has been written, and what is left to do
 use mathlib.Core.Path.{_≡_, refl, sym, _∙_, ap, subst}
 use mathlib.Core.Bool.{Bool, true, false}
-use mathlib.Core.List.{List, [], _∷_, _++_, append-assoc, append-nil}
-use Prim.Native.Nat.{ℕ, zero, suc, _+_, _*_, _-_, _/_, _≤_, _<_}
+use mathlib.Core.List.{List, [], _++_, append-assoc, append-nil}
+use Prim.Native.Nat.{ℕ, suc, _+_, _*_, _-_, _/_, _≤_, _<_}
 use native.Mathlib.Omega.{arith}
-use lib.Dec.{ltb}
 use lib.ListN.{length, take, drop, length-append, length-drop}
 use lib.Seq.{drop-drop, take-all, drop-length}
-use Rattle.ground.specs.Tests.{if_then_else_, Says}
-use Rattle.ground.proofs.Tests.{ltb-says, is-true, is-false, of-true}
-use Rattle.rules.proofs.Keeping.{not-both}
-use Rattle.ground.specs.Bytes.{le}
-use Rattle.ground.proofs.Bytes.{length-le}
-use Rattle.rules.specs.Record.{slotBytes, recordBytes}
+use Rattle.rules.specs.Record.{recordBytes}
 use Rattle.room.specs.Pasted.{pasted}
-use Rattle.room.proofs.Pastes.{length-slots, grown}
-use Rattle.whole.proofs.Opening.{open-whole}
+use Rattle.room.proofs.Pastes.{grown}
 use Rattle.plane.specs.declared.State.{State}
-use Rattle.plane.specs.Machine.{openedOf, moveTo, movedOf}
+use Rattle.plane.specs.Machine.{movedOf}
 use Rattle.whole.specs.Whole.{Whole}
 use Rattle.whole.proofs.Keeping.{step-whole}
-use Rattle.calls.specs.Run.{Went, went, goesOn, ranBy, filledBy}
-
-pub goes-yes : (left now stop : ℕ) → 0 < left → ltb now stop ≡ goesOn left now stop
-unfolding goesOn
-goes-yes left now stop h = rw (is-true (ltb 0 left) (ltb-says 0 left) h)
-
-pub goes-no : (left now stop : ℕ) → left ≤ 0 → false ≡ goesOn left now stop
-unfolding goesOn
-goes-no left now stop h = rw (is-false (ltb 0 left) (ltb-says 0 left) (λ z. omega arith))
-
--- another step
-pub goes-more : (left now stop : ℕ) → goesOn left now stop ≡ true → (0 < left) × (now < stop)
-unfolding goesOn
-goes-more zero now stop e = not-both _ e
-goes-more (suc n) now stop e = (omega arith, of-true (ltb now stop) (ltb-says now stop) (goes-yes (suc n) now stop (omega arith) ∙ e))
+use Rattle.calls.specs.Run.{Went, went, goesOn, filledBy}
+use Rattle.calls.proofs.Went.{goes-more, went-more, went-none, record-48}
 
 -- what is done, and what is left
 pub record Going (h : ℕ) (s₀ : State) (room₀ : List ℕ) (s : State) (room₁ : List ℕ) (left records : ℕ) : Type 0 where
@@ -49,26 +29,6 @@ pub record Going (h : ℕ) (s₀ : State) (room₀ : List ℕ) (s : State) (room
 
 pub going-from : (h : ℕ) (s : State) (room : List ℕ) → Whole s → Going h s room s room (length room / 48) 0
 going-from h s room W = record { whole = W; past = []; size = refl; room = refl; fits = omega arith; state = refl; count = omega arith; bytes = refl }
-
--- one step of what is left
-went-more : (n h : ℕ) (s : State) → s .now .0 < h * s .table .scale
-    → went (suc n) h s ≡ record { state = went n h (movedOf s h .state) .state; records = suc (went n h (movedOf s h .state) .records); bytes = recordBytes (movedOf s h .rec) ++ went n h (movedOf s h .state) .bytes }
-unfolding went
-went-more n h s lt = rw (went, is-true (ltb (s .now .0) (h * s .table .scale)) (ltb-says (s .now .0) (h * s .table .scale)) lt)
-
--- nothing is left
-went-none : (n h : ℕ) (s : State) → goesOn n (s .now .0) (h * s .table .scale) ≡ false → went n h s ≡ record { state = s; records = 0; bytes = [] }
-unfolding went
-went-none zero h s e = refl
-went-none (suc n) h s e = rw (went, goes-yes (suc n) (s .now .0) (h * s .table .scale) (omega arith) ∙ e)
-
--- a record has 48 bytes
-record-48 : (s : State) (h : ℕ) → Whole s → length (recordBytes (movedOf s h .rec)) ≡ 48
-unfolding movedOf moveTo recordBytes
-record-48 s h W =
-    let o = openedOf s in
-    let r = movedOf s h .rec in
-    omega (arith, length-append (le 8 (r .from) ++ le 8 (r .to)) (slotBytes (o .slots)), length-append (le 8 (r .from)) (le 8 (r .to)), length-le 8 (r .from), length-le 8 (r .to), length-slots (o .slots), open-whole s W .0 .sized .slots)
 
 -- a part that runs to the end of the room, put back with the record before
 part-back : (at : ℕ) (room b : List ℕ)

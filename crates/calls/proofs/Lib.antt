@@ -1,6 +1,7 @@
 pub mod Parts
 pub mod Refining
 pub mod Serving
+pub mod Went
 pub mod Runs
 pub mod Going
 pub mod Demands

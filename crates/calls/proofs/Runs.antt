@@ -1,11 +1,12 @@
--- Run is step after step
+-- Run is step after step, and its records are theirs
 use mathlib.Core.Path.{_≡_, refl, sym, _∙_, ap, subst}
 use mathlib.Core.Bool.{Bool, true, false}
-use mathlib.Core.List.{List, [], _∷_, _++_, append-nil}
-use Prim.Native.Nat.{ℕ, zero, suc, _+_, _*_, _≤_, _<_}
+use mathlib.Core.List.{List, [], _∷_, _++_, append-nil, append-assoc}
+use Prim.Native.Nat.{ℕ, zero, suc, _+_, _*_, _/_, _≤_, _<_}
 use native.Mathlib.Omega.{arith}
 use lib.Dec.{leb, ltb}
-use lib.ListN.{length, drop, replicate, length-replicate}
+use lib.ListN.{length, take, drop, replicate, length-replicate}
+use lib.Seq.{take-at, drop-at}
 use Rattle.rules.specs.declared.Answer.{Answer}
 use Rattle.rules.specs.declared.Answer.the-variants.{Done, HorizonNotLater}
 use Rattle.plane.specs.declared.State.{State}
@@ -13,15 +14,19 @@ use Rattle.calls.specs.declared.Stepped.{Stepped}
 use Rattle.ground.specs.Tests.{if_then_else_, Says}
 use Rattle.ground.proofs.Tests.{ltb-says}
 use Rattle.rules.specs.Answers.{isDone}
-use Rattle.rules.specs.Record.{recordBytes}
-use Rattle.rules.proofs.Refusing.{step-exact}
+use Rattle.rules.specs.Record.{Record, recordBytes, readRecord}
+use Rattle.rules.specs.Reasons.{StepReason}
+use Rattle.rules.proofs.Demands.{by-answer}
+use Rattle.rules.proofs.Refusing.{step-exact, step-answers}
 use Rattle.plane.specs.Machine.{movedOf}
 use Rattle.plane.specs.View.{view}
-use Rattle.calls.specs.Run.{Went, went, steps}
+use Rattle.calls.specs.Run.{Went, went, steps, goesOn, runOf, runRoom}
+use Rattle.calls.specs.Demands.{Calls, calling, callingAll, stepCall, runCall, readRecords, oneStep}
 use Rattle.calls.specs.Step.{stepAnswerOf, stepOf, stepRoom}
 use Rattle.whole.specs.Whole.{Whole}
 use Rattle.whole.proofs.Keeping.{step-whole}
 use Rattle.calls.proofs.Refining.{step-same}
+use Rattle.calls.proofs.Went.{goes-none, goes-more, went-more, went-none, by-going, record-48}
 
 -- with a horizon that lies ahead, step does not refuse; with one that does not, it refuses by 11
 ahead : (s : State) (h : ℕ) → Whole s → h ≤ 4294967295 → s .now .0 < h * s .table .scale → stepAnswerOf s h 48 ≡ Done
@@ -65,3 +70,62 @@ run-steps (suc n) h s W hc = go (ltb (s .now .0) (h * s .table .scale)) (ltb-say
         let M = step-whole s h W lt hc in
         rw (answer Done d, stepped s h d, full-room s h d, ih (movedOf s h .state) (M .whole))
     go false q ih = rw (answer HorizonNotLater (behind s h W hc q))
+
+-- THE RECORDS
+abbrev at : State → List Record → Calls
+at s rs = record { state = s; records = rs }
+
+-- a step with room for one record
+one-called : (s : State) (h : ℕ) (rs : List Record) → stepAnswerOf s h 48 ≡ Done
+    → calling (at s rs) (oneStep h) ≡ at (movedOf s h .state) (rs ++ (readRecord (recordBytes (movedOf s h .rec)) ∷ []))
+unfolding calling stepOf
+one-called s h rs d =
+    let n : length (replicate {A = ℕ} 48 0) ≡ 48 = length-replicate {A = ℕ} 48 0 in
+    rw (n, d, full-room s h d)
+
+-- the first record, and the rest
+read-more : (n : ℕ) (b l rest : List ℕ) (rs : List Record) → length b ≡ 48
+    → (rs ++ (readRecord b ∷ [])) ++ readRecords n (l ++ rest) ≡ rs ++ readRecords (suc n) ((b ++ l) ++ rest)
+unfolding readRecords
+read-more n b l rest rs e =
+    append-assoc rs (readRecord b ∷ []) (readRecords n (l ++ rest))
+    ∙ rw (append-assoc b l rest, take-at b (l ++ rest) 48 e, drop-at b (l ++ rest) 48 e)
+
+abbrev Called : ℕ → ℕ → State → List Record → List ℕ → Type 0
+Called n h s rs rest = callingAll (at s rs) (replicate (went n h s .records) (oneStep h)) ≡ at (went n h s .state) (rs ++ readRecords (went n h s .records) (went n h s .bytes ++ rest))
+
+called-none : (n h : ℕ) (s : State) (rs : List Record) (rest : List ℕ) → goesOn n (s .now .0) (h * s .table .scale) ≡ false → Called n h s rs rest
+unfolding callingAll readRecords
+called-none n h s rs rest e = rw (went-none n h s e, append-nil rs)
+
+called-more : (n h : ℕ) (s : State) (rs : List Record) (rest : List ℕ) → Whole s → h ≤ 4294967295 → s .now .0 < h * s .table .scale
+    → Called n h (movedOf s h .state) (rs ++ (readRecord (recordBytes (movedOf s h .rec)) ∷ [])) rest → Called (suc n) h s rs rest
+unfolding callingAll
+called-more n h s rs rest W hc lt ih =
+    let x = went n h (movedOf s h .state) in
+    let b = recordBytes (movedOf s h .rec) in
+    rw (went-more n h s lt)
+    (ap (λ (c : Calls). callingAll c (replicate (x .records) (oneStep h))) (one-called s h rs (ahead s h W hc lt))
+    ∙ ih ∙ ap (at (x .state)) (read-more (x .records) b (x .bytes) rest rs (record-48 s h W)))
+
+went-called : (n h : ℕ) (s : State) (rs : List Record) (rest : List ℕ) → Whole s → h ≤ 4294967295 → Called n h s rs rest
+went-called zero h s rs rest W hc = called-none zero h s rs rest (goes-none (s .now .0) (h * s .table .scale))
+went-called (suc n) h s rs rest W hc =
+    by-going _ (suc n) h s
+    (λ e.
+    let lt = goes-more (suc n) (s .now .0) (h * s .table .scale) e .1 in
+    called-more n h s rs rest W hc lt (went-called n h (movedOf s h .state) (rs ++ (readRecord (recordBytes (movedOf s h .rec)) ∷ [])) rest (step-whole s h W lt hc .whole) hc))
+    (λ e. called-none (suc n) h s rs rest e)
+
+-- a run hands out the records of as many steps
+pub run-called : (r : Calls) (h : ℕ) (room : List ℕ) → Whole (r .state)
+    → calling r (runCall h room) ≡ callingAll r (replicate (runOf (r .state) h (length room) .records) (oneStep h))
+unfolding calling callingAll readRecords runOf runRoom
+run-called r h room W =
+    let s = r .state in
+    by-answer _ (stepAnswerOf s h (length room))
+    (λ d.
+    let R = subst (StepReason (view s) h (length room)) (sym (step-same s h (length room) W) ∙ d) (step-answers (view s) h (length room)) in
+    let b = went (length room / 48) h s .bytes in
+    rw d (sym (went-called (length room / 48) h s (r .records) (drop (length b) room) W (R .2))))
+    (λ e. rw e (ap (at s) (append-nil (r .records))))

@@ -2,10 +2,10 @@
 use mathlib.Core.Path.{_≡_, refl, sym, _∙_, ap, subst}
 use mathlib.Core.Bool.{Bool, true, false}
 use mathlib.Core.Option.{Option, none, some}
-use mathlib.Core.List.{List, [], _∷_, _++_}
+use mathlib.Core.List.{List, [], _∷_, _++_, map}
 use Prim.Native.Nat.{ℕ, zero, suc, _+_, _*_, _-_, _≤_, _<_}
 use native.Mathlib.Omega.{arith}
-use lib.ListN.{length, getD}
+use lib.ListN.{length, getD, replicate}
 use Rattle.rules.specs.declared.Answer.{Answer}
 use Rattle.rules.specs.declared.Answer.the-variants.{Done}
 use Rattle.table.specs.declared.Table.{Table}
@@ -17,26 +17,28 @@ use Rattle.rules.specs.Calls as Rule
 use Rattle.rules.specs.Run as Runs
 use Rattle.ground.specs.Tests.{if_then_else_}
 use Rattle.rules.specs.Answers.{isDone}
-use Rattle.rules.specs.Demands.{ran, Once}
+use Rattle.rules.specs.Demands.{ran, Once, Follows}
 use Rattle.rules.specs.Planes.{opened}
 use Rattle.rules.specs.Reasons.{StepReason}
 use Rattle.rules.specs.Record.{Record, readRecord}
-use Rattle.rules.specs.Run.{Call, arriveCall, stepCall, perform, perform-all}
+use Rattle.rules.specs.Run.{perform, perform-all}
 use Rattle.rules.specs.State.{Task, at, short, isAwake}
 use Rattle.rules.specs.Table.{Row, shorter}
 use Rattle.rules.specs.Together.{Awake}
 use Rattle.rules.proofs.Calls.{opened-same, moving-moves}
-use Rattle.rules.proofs.Demands.{Good, step-serves}
+use Rattle.rules.proofs.Demands.{Good, perform-good, step-serves}
 use Rattle.rules.proofs.Refusing.{step-answers}
 use Rattle.plane.specs.Machine.{shorterAt}
 use Rattle.plane.specs.View.{taskAt, planeOf, view}
 use Rattle.plane.proofs.Passing.{awake-at}
 use Rattle.plane.proofs.Views.{sound-is}
-use Rattle.calls.specs.Demands.{Served, Calls, calling, callingAll, Serves}
+use Rattle.calls.specs.Demands.{Call, arriveCall, stepCall, runCall, Served, Calls, calling, callingAll, oneStep, Serves}
 use Rattle.calls.specs.Step.{stepOf, stepRoom}
+use Rattle.calls.specs.Run.{runOf}
 use Rattle.whole.specs.Whole.{Whole}
 use Rattle.whole.proofs.Keeping.{task-at}
 use Rattle.calls.proofs.Refining.{step-same, arrive-kept, step-kept}
+use Rattle.calls.proofs.Runs.{run-called}
 
 -- THE TWO RUNS GO TOGETHER
 pub record Together-run (r : Calls) (q : Runs.Run) : Type 0 where
@@ -44,13 +46,13 @@ pub record Together-run (r : Calls) (q : Runs.Run) : Type 0 where
   pub same : view (r .state) ≡ q .state
   pub records : r .records ≡ q .records
 
-arrive-together : (r : Calls) (q : Runs.Run) (task : ℕ) → Together-run r q → Together-run (calling r (arriveCall task)) (perform q (arriveCall task))
+arrive-together : (r : Calls) (q : Runs.Run) (task : ℕ) → Together-run r q → Together-run (calling r (arriveCall task)) (perform q (Runs.arriveCall task))
 unfolding calling perform
 arrive-together r q task T =
     let K = arrive-kept (r .state) task (T .whole) in
     record { whole = K .whole; same = K .same ∙ ap (λ (x : Rules.State). Rule.arrive x task .state) (T .same); records = T .records }
 
-step-together : (r : Calls) (q : Runs.Run) (h : ℕ) (room : List ℕ) → Together-run r q → Together-run (calling r (stepCall h room)) (perform q (stepCall h room))
+step-together : (r : Calls) (q : Runs.Run) (h : ℕ) (room : List ℕ) → Together-run r q → Together-run (calling r (stepCall h room)) (perform q (Runs.stepCall h room))
 unfolding calling perform
 step-together r q h room T =
     let s = r .state in
@@ -70,14 +72,41 @@ step-together r q h room T =
         → (if isDone x then rs ++ (readRecord u ∷ []) else rs) ≡ (if isDone y then qs ++ (readRecord v ∷ []) else qs)
     more x y rs qs u v e f g = rw (e, f, g)
 
-call-together : (r : Calls) (q : Runs.Run) (c : Call) → Together-run r q → Together-run (calling r c) (perform q c)
-call-together r q (arriveCall task) T = arrive-together r q task T
-call-together r q (stepCall h room) T = step-together r q h room T
+-- arrive and step, as the rules' calls
+abbrev pub plain : Runs.Call → Call
+plain (Runs.arriveCall task) = arriveCall task
+plain (Runs.stepCall h room) = stepCall h room
 
-pub calls-together : (cs : List Call) (r : Calls) (q : Runs.Run) → Together-run r q → Together-run (callingAll r cs) (perform-all q cs)
+plain-together : (r : Calls) (q : Runs.Run) (c : Runs.Call) → Together-run r q → Together-run (calling r (plain c)) (perform q c)
+plain-together r q (Runs.arriveCall task) T = arrive-together r q task T
+plain-together r q (Runs.stepCall h room) T = step-together r q h room T
+
+pub all-together : (cs : List Runs.Call) (r : Calls) (q : Runs.Run) → Together-run r q → Together-run (callingAll r (map plain cs)) (perform-all q cs)
 unfolding callingAll perform-all
-calls-together [] r q T = T
-calls-together (c ∷ cs) r q T = calls-together cs (calling r c) (perform q c) (call-together r q c T)
+all-together [] r q T = T
+all-together (c ∷ cs) r q T = all-together cs (calling r (plain c)) (perform q c) (plain-together r q c T)
+
+-- some run of the rules goes with the calls, and it is good
+abbrev pub Followed : Calls → Type 0
+Followed r = (q : Runs.Run) × Together-run r q × Good q
+
+step-followed : (r : Calls) (h : ℕ) (room : List ℕ) → Followed r → Followed (calling r (stepCall h room))
+step-followed r h room F = (perform (F .0) (Runs.stepCall h room), step-together r (F .0) h room (F .1), perform-good (F .0) (Runs.stepCall h room) (F .2))
+
+steps-followed : (n h : ℕ) (r : Calls) → Followed r → Followed (callingAll r (replicate n (oneStep h)))
+unfolding callingAll
+steps-followed zero h r F = F
+steps-followed (suc n) h r F = steps-followed n h (calling r (oneStep h)) (step-followed r h (replicate 48 0) F)
+
+call-followed : (r : Calls) (c : Call) → Followed r → Followed (calling r c)
+call-followed r (arriveCall task) F = (perform (F .0) (Runs.arriveCall task), arrive-together r (F .0) task (F .1), perform-good (F .0) (Runs.arriveCall task) (F .2))
+call-followed r (stepCall h room) F = step-followed r h room F
+call-followed r (runCall h room) F = subst Followed (sym (run-called r h room (F .1 .whole))) (steps-followed (runOf (r .state) h (length room) .records) h r F)
+
+pub calls-followed : (cs : List Call) (r : Calls) → Followed r → Followed (callingAll r cs)
+unfolding callingAll
+calls-followed [] r F = F
+calls-followed (c ∷ cs) r F = calls-followed cs (calling r c) (call-followed r c F)
 
 -- WHAT THE RULES SERVE THE CALLS SERVE
 closed-plane : (s : State) → s .going ≡ false → planeOf s ≡ none
@@ -114,8 +143,8 @@ module _ (r : Calls) (q : Runs.Run) (T : Together-run r q) (G : Good q) where
       let served = step-serves q G h room a j aw in
       let scale : after .scale ≡ s .table .scale = scale-kept h room a ∙ ap (λ (y : Rules.State). y .scale) (sym (T .same)) in
       let now′ : after .now ≡ x .now .0 = ap (λ (y : Rules.State). y .now) (sym xa) in
-      let books : perform q (stepCall h room) .records ≡ rs = sym (T′ .records) in
-      let ran-is : ran (suc j) (t .last * after .scale) (perform q (stepCall h room) .records) ≡ ran (suc j) (getD (s .jobs .last) j 0 * s .table .scale) rs =
+      let books : perform q (Runs.stepCall h room) .records ≡ rs = sym (T′ .records) in
+      let ran-is : ran (suc j) (t .last * after .scale) (perform q (Runs.stepCall h room) .records) ≡ ran (suc j) (getD (s .jobs .last) j 0 * s .table .scale) rs =
       ap (λ (y : List Record). ran (suc j) (t .last * after .scale) y) books ∙ ap (λ n. ran (suc j) n rs) (ap (λ n. n * after .scale) last ∙ ap (λ n. getD (s .jobs .last) j 0 * n) scale) in
       let plane : x .going ≡ false → after .plane ≡ none = λ g. ap (λ (y : Rules.State). y .plane) (sym xa) ∙ closed-plane x g in
       record {
@@ -124,7 +153,7 @@ module _ (r : Calls) (q : Runs.Run) (T : Together-run r q) (G : Good q) where
               E .0,
               sym now′ ∙ E .1 ∙ ap (λ n. E .0 * n) scale,
               omega (arith, E .2, last),
-              ap (λ n. n * shorterAt (s .table) j) (sym ran-is) ∙ ap (λ n. ran (suc j) (t .last * after .scale) (perform q (stepCall h room) .records) * n) (sym q′) ∙ E .3
+              ap (λ n. n * shorterAt (s .table) j) (sym ran-is) ∙ ap (λ n. ran (suc j) (t .last * after .scale) (perform q (Runs.stepCall h room) .records) * n) (sym q′) ∙ E .3
                   ∙ exact-side (t .row .exec) (getD (s .table .exec) j 0) (after .scale) (s .table .scale) (t .last) (getD (s .jobs .last) j 0) (E .0) exec scale last,
             );
         in-time = limit-side (after .now) (x .now .0) (t .last) (getD (s .jobs .last) j 0) (short t) (shorterAt (s .table) j) (after .scale) (s .table .scale) now′ last q′ scale (served .in-time);
@@ -133,7 +162,7 @@ module _ (r : Calls) (q : Runs.Run) (T : Together-run r q) (G : Good q) where
             (plane-closed x (ap (λ (y : Rules.State). y .plane) xa ∙ W .0), sym ran-is ∙ W .1 ∙ ap (λ n. n * after .scale) exec ∙ ap (λ n. getD (s .table .exec) j 0 * n) scale);
       }
     where
-      T′-same : Together-run (calling r (stepCall h room)) (perform q (stepCall h room)) → view (stepOf (r .state) h (length room) .state) ≡ Rule.step (q .state) h room .state
+      T′-same : Together-run (calling r (stepCall h room)) (perform q (Runs.stepCall h room)) → view (stepOf (r .state) h (length room) .state) ≡ Rule.step (q .state) h room .state
       T′-same T′ = unfold calling perform in (T′ .same)
 
       answers : (s : State) (h : ℕ) (room : List ℕ) → Whole s → stepOf s h (length room) .answer ≡ Rule.step (view s) h room .answer
@@ -155,4 +184,9 @@ module _ (r : Calls) (q : Runs.Run) (T : Together-run r q) (G : Good q) where
       reached n n′ b b′ k k′ l l′ p q r t h = rw (p, q, r, t) h
 
   pub serves : Serves r
-  serves = (serve, subst Once (sym (T .records)) (G .once))
+  serves = record {
+    serves = serve;
+    runs = λ h room. run-called r h room (T .whole);
+    once = subst Once (sym (T .records)) (G .once);
+    follows = rw (T .records, ap (λ (y : Rules.State). y .now) (T .same)) (G .follows);
+  }

@@ -3,8 +3,8 @@ use mathlib.Core.Path.{_≡_}
 use mathlib.Core.Bool.{Bool, true, false}
 use mathlib.Core.Logic.{_⊎_}
 use mathlib.Core.List.{List, [], _∷_, _++_, foldl, map}
-use Prim.Native.Nat.{ℕ, suc, _+_, _*_, _-_, _/_, _≤_, _<_}
-use lib.ListN.{length, getD, take, drop}
+use Prim.Native.Nat.{ℕ, zero, suc, _+_, _*_, _-_, _/_, _≤_, _<_}
+use lib.ListN.{length, getD, take, drop, replicate}
 use Rattle.ground.specs.Tests.{if_then_else_, Says}
 use Rattle.rules.specs.declared.Answer.{Answer}
 use Rattle.rules.specs.declared.Answer.the-variants.{Done, NotTogether}
@@ -12,9 +12,8 @@ use Rattle.rules.specs.Answers.{isDone, numberOf}
 use Rattle.rules.specs.Admission.{admit}
 use Rattle.rules.specs.Record.{Record, readRecord}
 use Rattle.rules.specs.Calls.{arrive, step}
-use Rattle.rules.specs.Demands.{ran, Once}
-use Rattle.rules.specs.Figures.{tableOf, tableP1, towards, line}
-use Rattle.rules.specs.Run.{Call, arriveCall, stepCall}
+use Rattle.rules.specs.Demands.{ran, Once, Follows}
+use Rattle.rules.specs.Figures.{tableOf, tableP1, line}
 use Rattle.plane.specs.declared.State.{State}
 use Rattle.plane.specs.Machine.{shorterAt}
 use Rattle.plane.specs.View.{view, Sized}
@@ -75,7 +74,27 @@ pub record Steps (s : State) (horizon : ℕ) (room : List ℕ) : Type 0 where
   pub bytes : stepRoom s horizon room ≡ step (view s) horizon room .room
   pub holds : holdsOf (stepOf s horizon (length room) .state) ≡ true
 
--- A RUN OF CALLS: each on the state that the last one handed back; the records are read off the bytes handed out
+-- DEMAND 2 of run: it is step after step, refused exactly when the first step is, and the state handed back holds together
+pub record RunSteps (s : State) (horizon : ℕ) (room : List ℕ) : Type 0 where
+  pub answer : runOf s horizon (length room) .answer ≡ stepOf s horizon (length room) .answer
+  pub done : runOf s horizon (length room) .answer ≡ Done
+      → (runOf s horizon (length room) .state ≡ Runs.steps (length room / 48) horizon s .state)
+      × (runOf s horizon (length room) .records ≡ Runs.steps (length room / 48) horizon s .records)
+      × (runRoom s horizon room ≡ Runs.steps (length room / 48) horizon s .bytes ++ drop (length (Runs.steps (length room / 48) horizon s .bytes)) room)
+      × (holdsOf (runOf s horizon (length room) .state) ≡ true)
+
+-- A call: an arrival of the task with this number; a step or a run to this horizon, with this room lent
+pub data Call : Type 0 where
+  arriveCall : (task : ℕ) → Call
+  stepCall : (horizon : ℕ) (room : List ℕ) → Call
+  runCall : (horizon : ℕ) (room : List ℕ) → Call
+
+-- the first n records that the bytes spell
+unfoldable pub readRecords : ℕ → List ℕ → List Record
+readRecords zero bytes = []
+readRecords (suc n) bytes = readRecord (take 48 bytes) ∷ readRecords n (drop 48 bytes)
+
+-- CALLS: each on the state that the last one handed back; the records are read off the bytes handed out
 pub record Calls : Type 0 where
   pub state : State
   pub records : List Record
@@ -86,6 +105,11 @@ calling r (stepCall horizon room) =
     record {
       state = stepOf (r .state) horizon (length room) .state;
       records = if isDone (stepOf (r .state) horizon (length room) .answer) then r .records ++ (readRecord (stepRoom (r .state) horizon room) ∷ []) else r .records;
+    }
+calling r (runCall horizon room) =
+    record {
+      state = runOf (r .state) horizon (length room) .state;
+      records = r .records ++ readRecords (runOf (r .state) horizon (length room) .records) (runRoom (r .state) horizon room);
     }
 
 unfoldable pub callingAll : Calls → List Call → Calls
@@ -105,25 +129,34 @@ pub record Served (before after : State) (j : ℕ) (rs : List Record) : Type 0 w
   pub whole : after .now .0 ≡ (getD (before .jobs .last) j 0 + shorterAt (before .table) j) * before .table .scale
       → (after .going ≡ false) × (ran (suc j) (getD (before .jobs .last) j 0 * before .table .scale) rs ≡ getD (before .table .exec) j 0 * before .table .scale)
 
--- one more step that is not refused serves every job that is awake, and no task is in two slots of one record
-abbrev pub Serves : Calls → Type 0
-Serves r =
-    ((horizon : ℕ) (room : List ℕ) → stepOf (r .state) horizon (length room) .answer ≡ Done
-    → (j : ℕ) → j < r .state .table .count → getD (r .state .jobs .awake) j false ≡ true
-    → Served (r .state) (stepOf (r .state) horizon (length room) .state) j (calling r (stepCall horizon room) .records))
-    × Once (r .records)
+-- a step with room for one record
+abbrev pub oneStep : ℕ → Call
+oneStep horizon = stepCall horizon (replicate 48 0)
+
+pub record Serves (r : Calls) : Type 0 where
+  -- one more step that is not refused serves every job that is awake
+  pub serves : (horizon : ℕ) (room : List ℕ) → stepOf (r .state) horizon (length room) .answer ≡ Done
+      → (j : ℕ) → j < r .state .table .count → getD (r .state .jobs .awake) j false ≡ true
+      → Served (r .state) (stepOf (r .state) horizon (length room) .state) j (calling r (stepCall horizon room) .records)
+  -- one more run is as many steps as it hands out records, so it serves what they serve
+  pub runs : (horizon : ℕ) (room : List ℕ) → calling r (runCall horizon room) ≡ callingAll r (replicate (runOf (r .state) horizon (length room) .records) (oneStep horizon))
+  -- "It never runs on two processors at one instant": in one slot of a record at most, and the records follow one another up to the present
+  pub once : Once (r .records)
+  pub follows : Follows 0 (r .records) (r .state .now .0)
 
 -- "Start from any admitted table and make any calls, refused ones among them, each on the state the last one handed back."
+abbrev pub starting : List ℕ → ℕ → Calls
+starting bytes m = record { state = admitOf bytes m .state; records = [] }
+
 abbrev pub Demand3 : Type 0
-Demand3 = (bytes : List ℕ) (m : ℕ) → admitOf bytes m .answer ≡ Done → (calls : List Call)
-    → Serves (callingAll (record { state = admitOf bytes m .state; records = [] }) calls)
+Demand3 = (bytes : List ℕ) (m : ℕ) → admitOf bytes m .answer ≡ Done → (calls : List Call) → Serves (callingAll (starting bytes m) calls)
 
 abbrev pub callsP1 : List Call
-callsP1 = arriveCall 1 ∷ arriveCall 2 ∷ arriveCall 3 ∷ arriveCall 4 ∷ towards 3 ∷ towards 3 ∷ towards 3 ∷ towards 3 ∷ []
+callsP1 = arriveCall 1 ∷ arriveCall 2 ∷ arriveCall 3 ∷ arriveCall 4 ∷ oneStep 3 ∷ oneStep 3 ∷ oneStep 3 ∷ oneStep 3 ∷ []
 
--- and there are such runs: P1's table is admitted, and its calls hand out P1's records
+-- and there are such calls: P1's table is admitted, and its calls hand out P1's records
 abbrev pub runP1 : Calls
-runP1 = callingAll (record { state = admitOf (tableOf tableP1) 2 .state; records = [] }) callsP1
+runP1 = callingAll (starting (tableOf tableP1) 2) callsP1
 
 pub record Met : Type 0 where
   pub admitted : admitOf (tableOf tableP1) 2 .answer ≡ Done
@@ -137,10 +170,7 @@ pub record Demand2 : Type 0 where
   pub arrives : (s : State) (task : ℕ) → Sized s → (holdsOf s ≡ true → Arrives s task) × (holdsOf s ≡ false → arriveOf s task .answer ≡ NotTogether)
   pub steps : (s : State) (horizon : ℕ) (room : List ℕ) → Sized s
       → (holdsOf s ≡ true → Steps s horizon room) × (holdsOf s ≡ false → stepOf s horizon (length room) .answer ≡ NotTogether)
-  -- run is step after step
-  pub runs : (s : State) (horizon : ℕ) (room : List ℕ) → Sized s → runOf s horizon (length room) .answer ≡ Done
-      → (runOf s horizon (length room) .state ≡ Runs.steps (length room / 48) horizon s .state) × (runOf s horizon (length room) .records ≡ Runs.steps (length room / 48) horizon s .records)
-      × (runRoom s horizon room ≡ Runs.steps (length room / 48) horizon s .bytes ++ drop (length (Runs.steps (length room / 48) horizon s .bytes)) room)
+  pub runs : (s : State) (horizon : ℕ) (room : List ℕ) → Sized s → RunSteps s horizon room
 
 -- TIGHT: any two results that a promise allows are equal, and so are any two rooms
 pub record Tight : Type 0 where

@@ -360,11 +360,11 @@ pub fn step(s: State, horizon: u64, room: &mut [u8]) -> Stepped
 }
 
 // Is there another step: room for a record, and a horizon ahead?
-fn goes_on(left: usize, present: Instant, stop: u64) -> bool
-    ensures is { λ r. ⌜ r ≡ goesOn left (present .0) stop ⌝ }
+fn goes_on(left: usize, present: Instant, stop: Instant) -> bool
+    ensures is { λ r. ⌜ r ≡ goesOn left (present .0) (stop .0) ⌝ }
 {
     if 0 < left {
-        return present.0 < stop;
+        return present.0 < stop.0;
     }
     false
 }
@@ -404,7 +404,8 @@ fn run_whole(s: State, horizon: u64, room: &mut [u8]) -> Ran
         running: running.len,
         waiting: waiting.len,
     };
-    let stop = horizon * table.scale;
+    let until = horizon * table.scale;
+    let stop = Instant(until);
     let mut r = moment;
     let mut left = room.len() / 48;
     let mut records: usize = 0;

@@ -21,7 +21,7 @@ use Rattle.ground.proofs.Times.{up-length}
 use Rattle.rules.specs.Admission.{admitVerdict, admit}
 use Rattle.rules.specs.Answers.{isDone}
 use Rattle.rules.specs.Calls.{lowestIdle, arriveIn, arriving, arriveAnswer, arrive, Moved, after, moveTo, moveIn, moving, stepAnswer, step}
-use Rattle.rules.specs.Demands.{ran, Once, Served, Demand3}
+use Rattle.rules.specs.Demands.{ran, Once, Follows, Served, Demand3}
 use Rattle.rules.specs.Events.{nextAt}
 use Rattle.rules.specs.Figures.{row}
 use Rattle.rules.specs.Planes.{endOf, openAt, openCase, opened}
@@ -257,6 +257,11 @@ pub record Good (r : Run) : Type 0 where
   pub books : Books (r .state) (r .state .plane) (r .records)
   pub fresh : Fresh (r .state .now) (r .records)
   pub once : Once (r .records)
+  pub follows : Follows 0 (r .records) (r .state .now)
+
+follows-more : (from now : ℕ) (rs : List Record) (r : Record) → Follows from rs now → r.from ≡ now → r.from < r.to → Follows from (rs ++ (r ∷ [])) (r.to)
+follows-more from now [] r F e h = (e ∙ sym F, h, refl)
+follows-more from now (x ∷ rs) r F e h = (F .0, F .1, follows-more (x .to) now rs r (F .2) e h)
 
 once-more : (rs : List Record) (r : Record) → Once rs → ((j : ℕ) → times (suc j) r.slots ≤ 1) → Once (rs ++ (r ∷ []))
 once-more [] r o h = (h, tt)
@@ -291,6 +296,7 @@ module _ (r : Run) (G : Good r) (h : ℕ) (room : List ℕ) (d : stepAnswer (r .
         books = does .books;
         fresh = rw (M .arrives) (fresh-more (r .records) (x .rec) (M .from-now) (M .later) (G .fresh));
         once = once-more (r .records) (x .rec) (G .once) (does .once);
+        follows = rw (M .arrives) (follows-more 0 (s .now) (r .records) (x .rec) (G .follows) (M .from-now) (M .later));
       } in
       subst Good (sym (run-is (step-is .state) (step-is .records))) made
     where
@@ -333,6 +339,7 @@ arrive-good r G task d =
       books = arrive-books s (r .records) (task - 1) (G .together) C (G .fresh) s.plane refl (G .books);
       fresh = G .fresh;
       once = G .once;
+      follows = G .follows;
     })
 
 -- done, or refused
@@ -378,11 +385,11 @@ admit-passes bytes m d =
     let c = rows-count (length bytes) (R .2) in
     record { processors = R .1; size = (omega (arith, c .0), omega (arith, c .1)); rows = R .3; scale-most = R .4; sum = R .5 }
 
-start-good : (bytes : List ℕ) (m : ℕ) → admit bytes m .answer ≡ Done → Good (starting (admit bytes m .state))
+pub start-good : (bytes : List ℕ) (m : ℕ) → admit bytes m .answer ≡ Done → Good (starting (admit bytes m .state))
 unfolding admit ran sumOf
 start-good bytes m d =
     let H = admitted-together m (rowsOf bytes) (admit-passes bytes m d) in
-    rw d (record { together = H; books = λ j w. not-both _ (sym (ap isAwake (all-asleep (scaleOf (rowsOf bytes)) (rowsOf bytes) j .0)) ∙ w); fresh = λ n since k. refl; once = tt })
+    rw d (record { together = H; books = λ j w. not-both _ (sym (ap isAwake (all-asleep (scaleOf (rowsOf bytes)) (rowsOf bytes) j .0)) ∙ w); fresh = λ n since k. refl; once = tt; follows = refl })
 
 pub run-of-good : (bytes : List ℕ) (m : ℕ) → admit bytes m .answer ≡ Done → (cs : List Call) → Good (runOf bytes m cs)
 unfolding runOf
@@ -402,4 +409,4 @@ step-serves r G h room a j w =
 pub demand-3 : Demand3
 demand-3 bytes m d cs h room =
     let G = run-of-good bytes m d cs in
-    (step-serves (runOf bytes m cs) G h room, G .once)
+    (step-serves (runOf bytes m cs) G h room, G .once, G .follows)

@@ -26,10 +26,15 @@ ranIn n since r = if leb since r.from then times n r.slots * (r.to - r.from) els
 unfoldable pub ran : ℕ → ℕ → List Record → ℕ
 ran n since rs = sumOf (ranIn n since) rs
 
--- "It never runs on two processors at one instant."
+-- "It never runs on two processors at one instant": it is in one slot of a record at most
 abbrev pub Once : List Record → Type 0
 Once [] = Unit {0}
 Once (r ∷ rs) = ((j : ℕ) → times (suc j) r.slots ≤ 1) × Once rs
+
+-- the records follow one another up to the present: each begins at the instant where the last one ended, and ends later
+abbrev pub Follows : ℕ → List Record → ℕ → Type 0
+Follows from [] now = from ≡ now
+Follows from (r ∷ rs) now = (r.from ≡ from) × (r.from < r.to) × Follows r.to rs now
 
 -- what a step does to the job of the task in place j that is awake in its plane: t is the task in that plane,
 -- after is the state handed back, rs are all records handed out, this step's among them
@@ -49,4 +54,4 @@ Demand3 = (bytes : List ℕ) (m : ℕ) → admit bytes m .answer ≡ Done → (c
     → (step (runOf bytes m calls .state) horizon room .answer ≡ Done
     → (j : ℕ) → Awake (at j (opened (runOf bytes m calls .state) .tasks))
     → Served (at j (opened (runOf bytes m calls .state) .tasks)) j (step (runOf bytes m calls .state) horizon room .state) (perform (runOf bytes m calls) (stepCall horizon room) .records))
-    × Once (runOf bytes m calls .records)
+    × Once (runOf bytes m calls .records) × Follows 0 (runOf bytes m calls .records) (runOf bytes m calls .state .now)

@@ -11,19 +11,20 @@ use Rattle.plane.specs.declared.State.{State}
 use Rattle.calls.specs.declared.Ran.{Ran}
 use Rattle.rules.specs.declared.Answer.the-variants.{Done}
 use Rattle.calls.specs.Run.{went, ranBy}
-use Rattle.calls.proofs.Going.{Going, goes-more, going-from, going-length, going-room, going-on, going-end}
+use Rattle.calls.proofs.Went.{goes-more}
+use Rattle.calls.proofs.Going.{Going, going-from, going-length, going-room, going-on, going-end}
 use Rattle.calls.proofs.run_whole.Statement.{statement}
 use Rattle.calls.proofs.run_whole.Tie as tie
 
 abbrev Inv-loop : tie.InvT-loop
-Inv-loop s horizon room₀ period exec deadline share order awake₀ arrived last rk₀ rt₀ wk₀ wt₀ slots₀ terms stop r₀ left₀ records₀ room awake rk rt wk wt slots r left records =
+Inv-loop s horizon room₀ period exec deadline share order awake₀ arrived last rk₀ rt₀ wk₀ wt₀ slots₀ terms until stop r₀ left₀ records₀ room awake rk rt wk wt slots r left records =
     Going horizon s room₀ (stateIn terms r period exec deadline share order awake arrived last rk rt wk wt slots) room left records
 
 abbrev μ-loop : tie.MeasureT-loop
-μ-loop s horizon room₀ period exec deadline share order awake₀ arrived last rk₀ rt₀ wk₀ wt₀ slots₀ terms stop r₀ left₀ records₀ room awake rk rt wk wt slots r left records = left
+μ-loop s horizon room₀ period exec deadline share order awake₀ arrived last rk₀ rt₀ wk₀ wt₀ slots₀ terms until stop r₀ left₀ records₀ room awake rk rt wk wt slots r left records = left
 
-mul-stop : tie.Need-mul-stop Inv-loop μ-loop
-mul-stop c = let p = c .before .before .before .before .before .before .before .before .before .before .before .before .before .before .before .before .before .before .before .before .pre in record { fits = stop-fits _ _ (p .0) (p .1) }
+mul-until : tie.Need-mul-until Inv-loop μ-loop
+mul-until c = let p = c .before .before .before .before .before .before .before .before .before .before .before .before .before .before .before .before .before .before .before .before .pre in record { fits = stop-fits _ _ (p .0) (p .1) }
 
 loop-holds : tie.Need-loop-holds Inv-loop μ-loop
 loop-holds c = let s = c .before .before .before .before .before .before .before .before .before .before .before .before .before .before .before .before .before .before .before .before in going-from _ _ _ (s .pre .0)
@@ -102,5 +103,5 @@ returns c =
 
 pub run-whole-spec : {M : Type 1} → statement M
 run-whole-spec =
-    tie.close (tie.spec Inv-loop μ-loop mul-stop loop-holds (λ c κs. search needs) mul-start sub-start part-start (λ c. search needs) step-in-requires
+    tie.close (tie.spec Inv-loop μ-loop mul-until loop-holds (λ c κs. search needs) mul-start sub-start part-start (λ c. search needs) step-in-requires
     sub-left add-records less loop-again same-length returns)

@@ -1,0 +1,75 @@
+-- What n steps come to
+use mathlib.Core.Path.{_≡_, refl, sym, _∙_, ap, subst}
+use mathlib.Core.Bool.{Bool, true, false}
+use mathlib.Core.List.{List, [], _∷_, _++_}
+use Prim.Native.Nat.{ℕ, zero, suc, _+_, _*_, _≤_, _<_}
+use native.Mathlib.Omega.{arith}
+use lib.Dec.{ltb}
+use lib.ListN.{length, length-append}
+use Rattle.ground.specs.Tests.{if_then_else_, Says}
+use Rattle.ground.proofs.Tests.{ltb-says, is-true, is-false, of-true}
+use Rattle.rules.proofs.Keeping.{not-both}
+use Rattle.ground.specs.Bytes.{le}
+use Rattle.ground.proofs.Bytes.{length-le}
+use Rattle.rules.specs.Record.{slotBytes, recordBytes}
+use Rattle.room.proofs.Pastes.{length-slots}
+use Rattle.whole.proofs.Opening.{open-whole}
+use Rattle.plane.specs.declared.State.{State}
+use Rattle.plane.specs.Machine.{openedOf, moveTo, movedOf}
+use Rattle.whole.specs.Whole.{Whole}
+use Rattle.whole.proofs.Keeping.{step-whole}
+use Rattle.calls.specs.Run.{Went, went, goesOn}
+
+pub goes-yes : (left now stop : ℕ) → 0 < left → ltb now stop ≡ goesOn left now stop
+unfolding goesOn
+goes-yes left now stop h = rw (is-true (ltb 0 left) (ltb-says 0 left) h)
+
+pub goes-no : (left now stop : ℕ) → left ≤ 0 → false ≡ goesOn left now stop
+unfolding goesOn
+goes-no left now stop h = rw (is-false (ltb 0 left) (ltb-says 0 left) (λ z. omega arith))
+
+pub goes-none : (now stop : ℕ) → goesOn 0 now stop ≡ false
+goes-none now stop = sym (goes-no 0 now stop (omega arith))
+
+-- another step
+pub goes-more : (left now stop : ℕ) → goesOn left now stop ≡ true → (0 < left) × (now < stop)
+unfolding goesOn
+goes-more zero now stop e = not-both _ e
+goes-more (suc n) now stop e = (omega arith, of-true (ltb now stop) (ltb-says now stop) (goes-yes (suc n) now stop (omega arith) ∙ e))
+
+-- one step of what is left
+pub went-more : (n h : ℕ) (s : State) → s .now .0 < h * s .table .scale
+    → went (suc n) h s ≡ record { state = went n h (movedOf s h .state) .state; records = suc (went n h (movedOf s h .state) .records); bytes = recordBytes (movedOf s h .rec) ++ went n h (movedOf s h .state) .bytes }
+unfolding went
+went-more n h s lt = rw (went, is-true (ltb (s .now .0) (h * s .table .scale)) (ltb-says (s .now .0) (h * s .table .scale)) lt)
+
+-- nothing is left
+pub went-none : (n h : ℕ) (s : State) → goesOn n (s .now .0) (h * s .table .scale) ≡ false → went n h s ≡ record { state = s; records = 0; bytes = [] }
+unfolding went
+went-none zero h s e = refl
+went-none (suc n) h s e = rw (went, goes-yes (suc n) (s .now .0) (h * s .table .scale) (omega arith) ∙ e)
+
+-- a record has 48 bytes
+pub record-48 : (s : State) (h : ℕ) → Whole s → length (recordBytes (movedOf s h .rec)) ≡ 48
+unfolding movedOf moveTo recordBytes
+record-48 s h W =
+    let o = openedOf s in
+    let r = movedOf s h .rec in
+    omega (arith, length-append (le 8 (r .from) ++ le 8 (r .to)) (slotBytes (o .slots)), length-append (le 8 (r .from)) (le 8 (r .to)), length-le 8 (r .from), length-le 8 (r .to), length-slots (o .slots), open-whole s W .0 .sized .slots)
+
+-- another step, or none
+pub by-going : (P : Type 0) (n h : ℕ) (s : State) → (goesOn n (s .now .0) (h * s .table .scale) ≡ true → P) → (goesOn n (s .now .0) (h * s .table .scale) ≡ false → P) → P
+by-going P n h s f g = go (goesOn n (s .now .0) (h * s .table .scale)) refl
+  where
+    go : (b : Bool) → goesOn n (s .now .0) (h * s .table .scale) ≡ b → P
+    go true e = f e
+    go false e = g e
+
+-- a state that holds together still does
+pub went-whole : (n h : ℕ) (s : State) → Whole s → h ≤ 4294967295 → Whole (went n h s .state)
+went-whole zero h s W hc = rw (went-none zero h s (goes-none (s .now .0) (h * s .table .scale))) W
+went-whole (suc n) h s W hc =
+    by-going _ (suc n) h s
+    (λ e. let lt = goes-more (suc n) (s .now .0) (h * s .table .scale) e .1 in
+    rw (went-more n h s lt) (went-whole n h (movedOf s h .state) (step-whole s h W lt hc .whole) hc))
+    (λ e. rw (went-none (suc n) h s e) W)
