@@ -50,7 +50,7 @@ whole-dated s W =
     }
 
 -- the answer 0
-done-is : (a : Answer) → isDone a ≡ true → a ≡ Done
+pub done-is : (a : Answer) → isDone a ≡ true → a ≡ Done
 done-is a d = by-answer _ a (λ e. e) (λ f. not-both _ (sym f ∙ d))
 
 -- ARRIVE

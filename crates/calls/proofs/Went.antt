@@ -2,7 +2,7 @@
 use mathlib.Core.Path.{_≡_, refl, sym, _∙_, ap, subst}
 use mathlib.Core.Bool.{Bool, true, false}
 use mathlib.Core.List.{List, [], _∷_, _++_}
-use Prim.Native.Nat.{ℕ, zero, suc, _+_, _*_, _≤_, _<_}
+use Prim.Native.Nat.{ℕ, zero, suc, _+_, _*_, _/_, _≤_, _<_}
 use native.Mathlib.Omega.{arith}
 use lib.Dec.{ltb}
 use lib.ListN.{length, length-append}
@@ -18,7 +18,12 @@ use Rattle.plane.specs.declared.State.{State}
 use Rattle.plane.specs.Machine.{openedOf, moveTo, movedOf}
 use Rattle.whole.specs.Whole.{Whole}
 use Rattle.whole.proofs.Keeping.{step-whole}
-use Rattle.calls.specs.Run.{Went, went, goesOn}
+use Rattle.plane.specs.View.{view}
+use Rattle.rules.specs.State as Rules
+use Rattle.rules.proofs.Calls.{moving-moves}
+use Rattle.rules.specs.Answers.{isDone}
+use Rattle.calls.specs.Step.{Ahead, stepAnswerOf}
+use Rattle.calls.specs.Run.{Went, went, goesOn, runOf}
 
 pub goes-yes : (left now stop : ℕ) → 0 < left → ltb now stop ≡ goesOn left now stop
 unfolding goesOn
@@ -73,3 +78,57 @@ went-whole (suc n) h s W hc =
     (λ e. let lt = goes-more (suc n) (s .now .0) (h * s .table .scale) e .1 in
     rw (went-more n h s lt) (went-whole n h (movedOf s h .state) (step-whole s h W lt hc .whole) hc))
     (λ e. rw (went-none (suc n) h s e) W)
+
+-- TIME
+pub record Later (s k : State) : Type 0 where
+  pub later : s .now .0 ≤ k .now .0
+  pub scale : k .table .scale ≡ s .table .scale
+
+-- a step moves the present on
+step-later : (s : State) (h : ℕ) → Whole s → s .now .0 < h * s .table .scale → h ≤ 4294967295 → (s .now .0 < movedOf s h .state .now .0) × (movedOf s h .state .table .scale ≡ s .table .scale)
+step-later s h W lt hc =
+    let M = moving-moves (view s) h (W .together) lt in
+    let e = step-whole s h W lt hc .view-is in
+    (omega (arith, ap (λ (x : Rules.State). x .now) e, M .arrives, M .later, M .from-now), ap (λ (x : Rules.State). x .scale) e ∙ M .same-scale)
+
+went-later : (n h : ℕ) (s : State) → Whole s → h ≤ 4294967295 → Later s (went n h s .state)
+went-later zero h s W hc = rw (went-none zero h s (goes-none (s .now .0) (h * s .table .scale))) (record { later = omega arith; scale = refl })
+went-later (suc n) h s W hc =
+    by-going _ (suc n) h s
+    (λ e.
+    let lt = goes-more (suc n) (s .now .0) (h * s .table .scale) e .1 in
+    let one = step-later s h W lt hc in
+    let on = went-later n h (movedOf s h .state) (step-whole s h W lt hc .whole) hc in
+    rw (went-more n h s lt) (record { later = omega (arith, one .0, on .later); scale = on .scale ∙ one .1 }))
+    (λ e. rw (went-none (suc n) h s e) (record { later = omega arith; scale = refl }))
+
+-- a run that has room for a record moves the present on
+pub run-later : (h n : ℕ) (s : State) → Ahead s h n → (s .now .0 < went (n / 48) h s .state .now .0) × (went (n / 48) h s .state .table .scale ≡ s .table .scale)
+run-later h n s A = go (n / 48) (omega (arith, A .space))
+  where
+    go : (k : ℕ) → 0 < k → (s .now .0 < went k h s .state .now .0) × (went k h s .state .table .scale ≡ s .table .scale)
+    go zero p = let z : ⊥ = omega arith in absurd z
+    go (suc k) p =
+        let one = step-later s h (A .whole) (A .ahead) (A .clock) in
+        let on = went-later k h (movedOf s h .state) (step-whole s h (A .whole) (A .ahead) (A .clock) .whole) (A .clock) in
+        rw (went-more k h s (A .ahead)) (omega (arith, one .0, on .later), on .scale ∙ one .1)
+
+-- HOW MANY RECORDS
+-- a record for each step
+went-by : (b : Bool) (n : ℕ) (x y : Went) → x .records ≤ n → y .records ≤ n → (elim b as (λ _. Went) [ true ↦ x | false ↦ y ]) .records ≤ n
+went-by true n x y p q = p
+went-by false n x y p q = q
+
+went-most : (n h : ℕ) (s : State) → went n h s .records ≤ n
+unfolding went
+went-most zero h s = omega arith
+went-most (suc n) h s = went-by (ltb (s .now .0) (h * s .table .scale)) (suc n) _ _ (omega (arith, went-most n h (movedOf s h .state))) (omega arith)
+
+-- a run has no more records than its room has places
+pub run-most : (s : State) (h room : ℕ) → runOf s h room .records ≤ room / 48
+unfolding runOf
+run-most s h room = by-test (isDone (stepAnswerOf s h room))
+  where
+    by-test : (b : Bool) → (if b then went (room / 48) h s .records else 0) ≤ room / 48
+    by-test true = went-most (room / 48) h s
+    by-test false = omega arith

@@ -467,6 +467,7 @@ fn run_whole(s: State, horizon: u64, room: &mut [u8]) -> Ran
 // Step after step till the horizon, or till less than 48 bytes of the room are left.
 pub fn run(s: State, horizon: u64, room: &mut [u8]) -> Ran
     ensures is { λ r. ⌜ (r ≡ runOf s horizon (length (now (room .entry)))) × (now (room .exit) ≡ runRoom s horizon (now (room .entry))) ⌝ }
+    ensures ahead { λ r. ⌜ (isDone (r .answer) ≡ true → Ahead s horizon (length (now (room .entry)))) ⌝ }
 {
     let answer = may_step(s, horizon, room.len());
     if !table::is_done(answer) {

@@ -1,6 +1,9 @@
 // What the program does with a text: checks its form, admits its table, and writes what its lines come to.
+ghost use mathlib.Core.Path.{_≡_};
+ghost use mathlib.Core.Bool.{true};
 ghost use Prim.Native.Nat.{_≤_};
 ghost use lib.ListN.{length};
+ghost use Rattle.listing.specs.Onward.{Onward};
 use libc::STDOUT_FILENO;
 use plane::State;
 use rules::Answer;
@@ -39,23 +42,14 @@ fn write_scale(scale: u64) {
     io::write_all(STDOUT_FILENO, &out[..k]);
 }
 
-// The lines of n records.
-fn write_records(room: &[u8; 22752], n: usize, m: usize)
-    requires few { ⌜ (n ≤ 474) × (m ≤ 16) ⌝ }
+// Runs towards a tick, for at most 474 records, and writes their lines.
+fn run_part(s: State, tick: u64) -> Part
+    ensures moves { λ r. ⌜ (r .more ≡ true → Onward s tick (r .state)) ⌝ }
 {
-    let mut lines = io::large_buffer();
-    let k = text::put_records(&mut lines, room, n, m);
-    io::write_all(STDOUT_FILENO, &lines[..k]);
-}
-
-// Runs towards a tick, for at most 474 records, and writes them.
-fn run_part(s: State, tick: u64, m: usize) -> Part
-    requires few { ⌜ m ≤ 16 ⌝ }
-{
-    let mut room = [0u8; 22752];
-    let r = calls::run(s, tick, &mut room);
-    let n = r.records;
-    write_records(&room, n, m);
+    let mut out = io::large_buffer();
+    let r = lines::run_lines(s, tick, &mut out);
+    let len = r.len;
+    io::write_all(STDOUT_FILENO, &out[..len]);
     let answer = r.answer;
     let state = r.state;
     Part {
@@ -64,28 +58,20 @@ fn run_part(s: State, tick: u64, m: usize) -> Part
     }
 }
 
-// Runs to a tick. The bound is the number of instants up to the clock's end, and each part but the last has a record:
-// it is always the answer that ends the loop.
-fn run_to(s: State, tick: u64, m: usize) -> State
-    requires few { ⌜ m ≤ 16 ⌝ }
-{
+// Runs to a tick. Each part but the last moves the present on, and never past the tick.
+fn run_to(s: State, tick: u64) -> State {
     let mut state = s;
-    let mut left: u64 = 576460752169205760;
-    while 0 < left {
-        let p = run_part(state, tick, m);
+    loop {
+        let p = run_part(state, tick);
         state = p.state;
         if !p.more {
             return state;
         }
-        left -= 1;
     }
-    state
 }
 
 // Runs to a tick; an earlier tick is refused.
-fn reach(s: State, present: u64, tick: u64, m: usize, line: u64) -> Part
-    requires few { ⌜ m ≤ 16 ⌝ }
-{
+fn reach(s: State, present: u64, tick: u64, line: u64) -> Part {
     if tick < present {
         refuse_answer(Answer::HorizonNotLater, line);
         return Part {
@@ -94,7 +80,7 @@ fn reach(s: State, present: u64, tick: u64, m: usize, line: u64) -> Part
         };
     }
     if present < tick {
-        let reached = run_to(s, tick, m);
+        let reached = run_to(s, tick);
         return Part {
             more: true,
             state: reached,
@@ -107,10 +93,8 @@ fn reach(s: State, present: u64, tick: u64, m: usize, line: u64) -> Part
 }
 
 // An arrive line.
-fn arrive(s: State, present: u64, tick: u64, task: u64, m: usize, line: u64) -> After
-    requires few { ⌜ m ≤ 16 ⌝ }
-{
-    let p = reach(s, present, tick, m, line);
+fn arrive(s: State, present: u64, tick: u64, task: u64, line: u64) -> After {
+    let p = reach(s, present, tick, line);
     let there = p.state;
     if !p.more {
         return After {
@@ -134,10 +118,8 @@ fn arrive(s: State, present: u64, tick: u64, task: u64, m: usize, line: u64) -> 
 }
 
 // The until line.
-fn until(s: State, present: u64, tick: u64, m: usize, line: u64) -> After
-    requires few { ⌜ m ≤ 16 ⌝ }
-{
-    let p = reach(s, present, tick, m, line);
+fn until(s: State, present: u64, tick: u64, line: u64) -> After {
+    let p = reach(s, present, tick, line);
     let there = p.state;
     After {
         more: false,
@@ -147,12 +129,10 @@ fn until(s: State, present: u64, tick: u64, m: usize, line: u64) -> After
 }
 
 // What one line asks for.
-fn turn(item: Item, line: u64, s: State, present: u64, m: usize) -> After
-    requires few { ⌜ m ≤ 16 ⌝ }
-{
+fn turn(item: Item, line: u64, s: State, present: u64) -> After {
     match item {
-        Item::Arrive(tick, task) => arrive(s, present, tick, task, m, line),
-        Item::Until(tick) => until(s, present, tick, m, line),
+        Item::Arrive(tick, task) => arrive(s, present, tick, task, line),
+        Item::Until(tick) => until(s, present, tick, line),
         Item::Processors(_) => After {
             more: true,
             state: s,
@@ -172,8 +152,8 @@ fn turn(item: Item, line: u64, s: State, present: u64, m: usize) -> After
 }
 
 // The arrive lines and until, in turn.
-fn turns(s: &[u8], first: State, m: usize)
-    requires short { ⌜ (length (now s) ≤ 65536) × (m ≤ 16) ⌝ }
+fn turns(s: &[u8], first: State)
+    requires short { ⌜ length (now s) ≤ 65536 ⌝ }
 {
     let mut at: usize = 0;
     let mut line: u64 = 1;
@@ -182,7 +162,7 @@ fn turns(s: &[u8], first: State, m: usize)
     while at < s.len() {
         let l = text::line_at(s, at);
         let item = l.item;
-        let a = turn(item, line, state, present, m);
+        let a = turn(item, line, state, present);
         if !a.more {
             return;
         }
@@ -209,11 +189,13 @@ fn run(s: &[u8])
     let state = a.state;
     let held = state.table;
     write_scale(held.scale);
-    turns(s, state, m);
+    turns(s, state);
 }
 
 // Whether the text is of good form; if not, it says so.
-fn checked(s: &[u8]) -> bool {
+fn checked(s: &[u8]) -> bool
+    ensures short { λ r. ⌜ (r ≡ true → length (now (s .entry)) ≤ 65536) ⌝ }
+{
     let c = text::form(s);
     match c {
         Checked::Good => true,
@@ -225,9 +207,7 @@ fn checked(s: &[u8]) -> bool {
 }
 
 // Writes all that a text comes to.
-pub fn answer(s: &[u8])
-    requires short { ⌜ length (now s) ≤ 65536 ⌝ }
-{
+pub fn answer(s: &[u8]) {
     if checked(s) {
         run(s);
     }

@@ -1,10 +1,4 @@
-use mathlib.Core.Path.{_≡_, sym, _∙_, ap}
-use mathlib.Core.Bool.{true}
-use Rattle.rules.specs.Answers.{isDone}
-use Rattle.calls.specs.declared.Admitted.{Admitted}
-use Rattle.listing.proofs.Bounds.{admitted-most}
 use borrow.Author.Needs.{needs}
-use borrow.Author.Tests.{not-false}
 use Rattle.listing.proofs.run.Statement.{statement}
 use Rattle.listing.proofs.run.Tie as tie
 
@@ -42,11 +36,7 @@ write-scale-requires : tie.Need-write-scale-requires
 write-scale-requires c κs = search needs
 
 turns-requires : tie.Need-turns-requires
-turns-requires c κs =
-    let admitted = c .before .before .before .before .before .admit in
-    let answered : isDone (admitted .result .answer) ≡ true = sym (c .before .before .before .before .is-done .ensures) ∙ not-false _ (c .before .before .before .if1 .left) in
-    let most = admitted-most _ _ (sym (ap (λ (x : Admitted). isDone (x .answer)) (admitted .ensures)) ∙ answered) in
-    (search needs, most)
+turns-requires c κs = search needs
 
 returns-2 : tie.Need-returns-2
 returns-2 c = search needs

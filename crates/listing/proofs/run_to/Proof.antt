@@ -1,45 +1,24 @@
-use Prim.Native.Nat.{_≤_}
 use borrow.Author.Needs.{needs}
+use borrow.Author.Tests.{not-false}
+use mathlib.Core.Path.{ap}
+use Prim.Native.Nat.{ℕ, _*_, _-_}
+use native.Mathlib.Omega.{arith}
 use Rattle.listing.proofs.run_to.Statement.{statement}
 use Rattle.listing.proofs.run_to.Tie as tie
 
 abbrev Inv-loop : tie.InvT-loop
-Inv-loop tick m state₀ left₀ state left = m ≤ 16
+Inv-loop tick state₀ state = Unit {0}
 
+-- the sub-ticks that are left
 abbrev μ-loop : tie.MeasureT-loop
-μ-loop tick m state₀ left₀ state left = left
-
-loop-holds : tie.Need-loop-holds Inv-loop μ-loop
-loop-holds c = search needs
-
-run-part-requires : tie.Need-run-part-requires Inv-loop μ-loop
-run-part-requires c κs = search needs
-
-returns : tie.Need-returns Inv-loop μ-loop
-returns c = search needs
-
-sub-left : tie.Need-sub-left Inv-loop μ-loop
-sub-left c = search needs
+μ-loop tick state₀ state = tick * state .table .scale - state .now .0
 
 loop-less : tie.Need-loop-less Inv-loop μ-loop
-loop-less c = search needs
-
-loop-again : tie.Need-loop-again Inv-loop μ-loop
-loop-again c = search needs
-
-returns-2 : tie.Need-returns-2 Inv-loop μ-loop
-returns-2 c = search needs
+loop-less c =
+    let k = c .before .before .before .before in
+    let O = c .before .before .before .run-part .ensures (not-false _ (c .if1 .left)) in
+    omega (arith, O .ahead, O .later, ap (λ (z : ℕ). k .before .args .tick * z) (O .scale))
 
 pub run-to-spec : {M : Type 1} → statement M
 run-to-spec =
-    tie.close
-    (tie.spec
-    Inv-loop
-    μ-loop
-    loop-holds
-    run-part-requires
-    returns
-    sub-left
-    loop-less
-    loop-again
-    returns-2)
+    tie.close (tie.spec Inv-loop μ-loop (λ c. tt) (λ c κs. search needs) (λ c. search needs) loop-less (λ c. tt))

@@ -10,10 +10,10 @@ use Rattle.listing.proofs.turns.Statement.{statement}
 use Rattle.listing.proofs.turns.Tie as tie
 
 abbrev Inv-loop : tie.InvT-loop
-Inv-loop s m at₀ line₀ state₀ present₀ at line state present = (m ≤ 16) × (at ≤ length s) × (line ≤ at + 1)
+Inv-loop s at₀ line₀ state₀ present₀ at line state present = (at ≤ length s) × (line ≤ at + 1)
 
 abbrev μ-loop : tie.MeasureT-loop
-μ-loop s m at₀ line₀ state₀ present₀ at line state present = length s - at
+μ-loop s at₀ line₀ state₀ present₀ at line state present = length s - at
 
 loop-holds : tie.Need-loop-holds Inv-loop μ-loop
 loop-holds c = search needs
