@@ -8,6 +8,7 @@ use native.Mathlib.Omega.{arith}
 use borrow.Author.Tests.{ltb-true, leb-true, eqb-true}
 use lib.Dec.{leb, ltb, eqb}
 use lib.ListN.{getD}
+use Rattle.table.specs.Rows.{shareSumOf}
 use Rattle.ground.specs.Tests.{if_then_else_}
 use Rattle.ground.specs.Sums.{sumOf, upFrom}
 use Rattle.ground.proofs.Tests.{leb-says, of-true}
@@ -16,7 +17,7 @@ use Rattle.rules.proofs.Scale.{share-at-most}
 use Rattle.queue.specs.declared.Queue.{Queue}
 use Rattle.plane.specs.Sound.{noMarks, allMarked, members, queueOk}
 use Rattle.holding.specs.Clauses.{runsOk, waitsOk, slotsOk, membersOk, soundBy, lastOk, lastsOk, runAmountsOk, waitAmountsOk, runSum, waitSum, awakeSum, ceilOf, soonestOf, limitOk, limitsOk, Near, Ready}
-use Rattle.holding.specs.Tables.{rowOk, rowsOk, shareOk, sharesOk, scaleOk, shareSum}
+use Rattle.holding.specs.Tables.{rowOk, rowsOk, shareOk, sharesOk, scaleOk}
 use Rattle.holding.proofs.Tables.{row-ok-says}
 use Rattle.holding.proofs.Folds.{and-both, all-none, all-at, sum-more, sum-bound, sum-mono}
 
@@ -46,7 +47,7 @@ if-small true x = omega arith
 if-small false x = omega arith
 
 -- the awake tasks' shares sum to no more than all shares
-pub awake-small : (awake : List Bool) (xs : List ℕ) (n : ℕ) → awakeSum awake xs n ≤ shareSum xs n
+pub awake-small : (awake : List Bool) (xs : List ℕ) (n : ℕ) → awakeSum awake xs n ≤ shareSumOf xs n
 awake-small awake xs n = sum-mono (λ i. if getD awake i false then getD xs i 0 else 0) (λ i. getD xs i 0) n (λ i h. if-small (getD awake i false) (getD xs i 0))
 
 -- THE SUM CLAUSE

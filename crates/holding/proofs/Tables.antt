@@ -9,6 +9,7 @@ use native.Mathlib.Omega.{arith}
 use lib.Dec.{leb, ltb, eqb}
 use lib.ListN.{length, getD, take}
 use lib.Seq.{getD-take, length-take-le}
+use Rattle.table.specs.Rows.{shareSumOf}
 use Rattle.table.specs.declared.Table.{Table}
 use Rattle.ground.specs.Sums.{upFrom}
 use Rattle.ground.specs.Tests.{Says}
@@ -27,7 +28,7 @@ use Rattle.rules.proofs.Holding.{processors-says}
 use Rattle.rules.proofs.Scale.{Positive, commonFrom, scale-positive, scale-test}
 use Rattle.plane.specs.View.{rowOf}
 use Rattle.holding.specs.Holds.{rowsIn, sharesIn, TableOk, OrderOk}
-use Rattle.holding.specs.Tables.{rowOk, rowsOk, scaleInRange, sharesOk, commonBelow, scaleOk, shareSum, tableOk, placesOk, ahead, fallsOk, orderOk}
+use Rattle.holding.specs.Tables.{rowOk, rowsOk, scaleInRange, sharesOk, commonBelow, scaleOk, tableOk, placesOk, ahead, fallsOk, orderOk}
 use Rattle.holding.proofs.Folds.{and-then, below-says}
 
 -- THE ROWS AS A LIST
@@ -136,7 +137,7 @@ table-ok-says t =
     (and-then _ _ (rowsOk (t .period) (t .exec) (t .deadline) (t .count)) _ (rows-ok-says t) (λ R.
     (and-then _ _ (scaleInRange (t .scale)) _ (and-says _ _ (leb 1 (t .scale)) _ (leb-says 1 (t .scale)) (leb-says (t .scale) 134217728)) (λ L.
     (and-says _ _ (scaleOk (t .scale) (t .period) (t .exec) (t .deadline) (t .share) (t .count)) _ (scale-says t R (L .0))
-    (leb-says (shareSum (t .share) (t .count)) (t .m * t .scale)))))))))
+    (leb-says (shareSumOf (t .share) (t .count)) (t .m * t .scale)))))))))
 
 -- THE KEPT ORDER
 share-in : (t : Table) (i : ℕ) → i < t .count → getD (sharesIn t) i 0 ≡ getD (t .share) i 0

@@ -5,12 +5,12 @@ use mathlib.Core.List.{List}
 use Prim.Native.Nat.{ℕ, _+_, _*_, _-_, _/_, _%_, _≤_, _<_, min, max}
 use lib.Dec.{leb, ltb, eqb}
 use lib.ListN.{getD}
+use Rattle.table.specs.Rows.{shareSumOf}
 use Rattle.ground.specs.Tests.{if_then_else_}
 use Rattle.ground.specs.Sums.{sumOf, upFrom}
 use Rattle.queue.specs.Below.{allBelow}
 use Rattle.queue.specs.declared.Queue.{Queue}
 use Rattle.plane.specs.Sound.{noMarks, allFresh, allMarked, members, queueOk}
-use Rattle.holding.specs.Tables.{shareSum}
 
 -- CONDITIONS: "running on one of the m processors and no two on the same, waiting, or resting"
 -- a running entry: a task, not past, on a processor
@@ -119,7 +119,7 @@ openBy ps ds xs n m scale now end awake arrived last rk rn wk wn =
 pub record Near (xs : List ℕ) (n scale now end rn wn : ℕ) : Type 0 where
   pub rows : n ≤ 128
   pub shares : (i : ℕ) → i < n → getD xs i 0 ≤ 134217728
-  pub sum : shareSum xs n ≤ 2147483648
+  pub sum : shareSumOf xs n ≤ 2147483648
   pub scale-in : (0 < scale) × (scale ≤ 134217728)
   pub later : now < end
   pub near : end ≤ now + 2097153 * scale
@@ -132,6 +132,6 @@ pub record Ready (ps ds xs : List ℕ) (n m scale now : ℕ) (arrived awake : Li
   pub scale-in : (0 < scale) × (scale ≤ 134217728)
   pub rows : (i : ℕ) → i < n → (getD ps i 0 ≤ 1048576) × (min (getD ps i 0) (getD ds i 0) ≤ 1048576)
   pub shares : (i : ℕ) → i < n → getD xs i 0 ≤ 134217728
-  pub sum : shareSum xs n ≤ 2147483648
+  pub sum : shareSumOf xs n ≤ 2147483648
   pub clock : now ≤ 4294967295 * scale
   pub lasts : lastsOk arrived awake last (now / scale) n ≡ true

@@ -5,6 +5,7 @@ use mathlib.Core.List.{List, map}
 use Prim.Native.Nat.{ℕ, _*_, _≤_, _<_}
 use lib.Dec.{leb}
 use lib.ListN.{getD, take}
+use Rattle.table.specs.Rows.{shareSumOf}
 use Rattle.ground.specs.Tests.{if_then_else_}
 use Rattle.ground.specs.Sums.{upFrom}
 use Rattle.rules.specs.Table.{Row}
@@ -18,7 +19,7 @@ use Rattle.plane.specs.declared.State.{State}
 use Rattle.plane.specs.Machine.{tickAt}
 use Rattle.plane.specs.View.{rowOf, view, Sound}
 use Rattle.plane.specs.Sound.{soundOf}
-use Rattle.holding.specs.Tables.{shareSum, tableOk, orderOk}
+use Rattle.holding.specs.Tables.{tableOk, orderOk}
 use Rattle.holding.specs.Clauses.{lastsOk, closedBy, openBy}
 
 -- "the instant is within the clock"
@@ -76,7 +77,7 @@ pub record TableOk (t : Table) : Type 0 where
   pub scale-is : t .scale ≡ scaleOf (rowsIn t)
   pub scale-most : t .scale ≤ 134217728
   pub share-is : (i : ℕ) → i < t .count → getD (t .share) i 0 ≡ shareOf (t .scale) (rowOf t i)
-  pub sum : shareSum (t .share) (t .count) ≤ t .m * t .scale
+  pub sum : shareSumOf (t .share) (t .count) ≤ t .m * t .scale
 
 -- the order that it keeps is the falling order of its shares
 abbrev pub OrderOk : Table → Type 0

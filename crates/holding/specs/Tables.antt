@@ -4,12 +4,12 @@ use mathlib.Core.List.{List}
 use Prim.Native.Nat.{ℕ, zero, suc, _+_, _*_, _-_, _/_, min}
 use lib.Dec.{leb, ltb, eqb}
 use lib.ListN.{getD}
-use Rattle.ground.specs.Sums.{sumOf, upFrom}
 use Rattle.rules.specs.Table.{rowInRange}
 use Rattle.rules.specs.Scale.{gcd}
 use Rattle.rules.specs.Admission.{processorsOk}
 use Rattle.queue.specs.Below.{allBelow}
 use Rattle.table.specs.declared.Table.{Table}
+use Rattle.table.specs.Rows.{shareSumOf}
 
 -- ROWS
 -- p, e and D are in range, and e is at most q
@@ -42,15 +42,11 @@ commonBelow l ps ds (suc n) = gcd (commonBelow l ps ds n) (l / min (getD ps n 0)
 unfoldable pub scaleOk : ℕ → List ℕ → List ℕ → List ℕ → List ℕ → ℕ → Bool
 scaleOk l ps es ds xs n = sharesOk l ps es ds xs n && eqb (commonBelow l ps ds n) 1
 
--- the sum of the first n shares
-abbrev pub shareSum : List ℕ → ℕ → ℕ
-shareSum xs n = sumOf (λ i. getD xs i 0) (upFrom 0 n)
-
 -- "table, m, L and shares pass admission"
 unfoldable pub tableOk : Table → Bool
 tableOk t =
     processorsOk (t .m) && ((leb 1 (t .count) && leb (t .count) 128) && (rowsOk (t .period) (t .exec) (t .deadline) (t .count)
-    && (scaleInRange (t .scale) && (scaleOk (t .scale) (t .period) (t .exec) (t .deadline) (t .share) (t .count) && leb (shareSum (t .share) (t .count)) (t .m * t .scale)))))
+    && (scaleInRange (t .scale) && (scaleOk (t .scale) (t .period) (t .exec) (t .deadline) (t .share) (t .count) && leb (shareSumOf (t .share) (t .count)) (t .m * t .scale)))))
 
 -- the table of these columns
 abbrev pub tableOf : List ℕ → List ℕ → List ℕ → List ℕ → List ℕ → ℕ → ℕ → ℕ → Table

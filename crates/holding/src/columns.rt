@@ -4,35 +4,23 @@ ghost use mathlib.Core.Bool.{true, false, _&&_};
 ghost use Prim.Native.Nat.{ℕ, _*_, _/_, _≤_, _<_, min};
 ghost use lib.Dec.{leb};
 ghost use lib.ListN.{getD};
-ghost use Rattle.rules.specs.Admission.{processorsOk};
-ghost use Rattle.rules.specs.Table.{inRange};
 ghost use Rattle.rules.specs.Scale.{gcd};
-ghost use Rattle.holding.specs.Tables.{rowOk, rowsOk, scaleInRange, shareOk, scaleOk, shareSum, tableOk, tableOf, placesOk, ahead, fallsOk};
-use crate::numbers::place;
-use crate::numbers::shorter;
-use crate::numbers::wide;
+ghost use Rattle.holding.specs.Tables.{rowOk, rowsOk, scaleInRange, shareOk, scaleOk, tableOk, tableOf, placesOk, ahead, fallsOk};
 use table::gcd;
+use table::place;
+use table::processors_ok;
+use table::row_in_range;
+use table::share_sum;
+use table::shorter;
+use table::wide;
 
 // ROWS
-
-// 1 to 1,048,576?
-fn in_range(x: u32) -> bool
-    ensures is { λ r. ⌜ r ≡ inRange x ⌝ }
-{
-    if 1 <= x { x <= 1048576 } else { false }
-}
 
 // Are p, e and D in range, and e at most q?
 fn row_ok(period: u32, exec: u32, deadline: u32) -> bool
     ensures is { λ r. ⌜ r ≡ rowOk period exec deadline ⌝ }
 {
-    if !in_range(period) {
-        return false;
-    }
-    if !in_range(exec) {
-        return false;
-    }
-    if !in_range(deadline) {
+    if !row_in_range(period, exec, deadline) {
         return false;
     }
     exec <= shorter(period, deadline)
@@ -108,27 +96,6 @@ fn scale_ok(
         i += 1;
     }
     g == 1
-}
-
-// The sum of the shares.
-fn share_sum(share: &[u64; 128], count: usize) -> u64
-    requires small { ⌜ (count ≤ 128) × ((i : ℕ) → i < count → getD (now share) i 0 ≤ 134217728) ⌝ }
-    ensures is { λ r. ⌜ r ≡ shareSum (now (share .entry)) count ⌝ }
-{
-    let mut sum: u64 = 0;
-    let mut i: usize = 0;
-    while i < count {
-        sum += share[i];
-        i += 1;
-    }
-    sum
-}
-
-// 1 to 16 processors?
-fn processors_ok(m: usize) -> bool
-    ensures is { λ r. ⌜ r ≡ processorsOk m ⌝ }
-{
-    if 1 <= m { m <= 16 } else { false }
 }
 
 // 1 to 128 rows?

@@ -15,7 +15,6 @@ mod columns;
 mod jobs;
 mod keys;
 mod members;
-mod numbers;
 mod planes;
 
 // Does the state of these parts hold together? Bounds first, products later.

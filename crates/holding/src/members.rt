@@ -7,7 +7,7 @@ ghost use lib.ListN.{length, take};
 ghost use Rattle.queue.specs.Lent.{old};
 ghost use Rattle.plane.specs.Sound.{noMarks, fresh, mark, allFresh, allMarked, queueOk};
 ghost use Rattle.holding.specs.Clauses.{runOk, runsOk, waitsOk, slotsOk, membersOk, soundBy};
-use crate::numbers::place;
+use table::place;
 use ground::Instant;
 use queue::stands;
 
