@@ -3,9 +3,9 @@ ghost use mathlib.Core.Path.{_≡_};
 ghost use mathlib.Core.Bool.{true};
 ghost use Prim.Native.Nat.{_/_, _≤_, _<_, min};
 ghost use Rattle.holding.specs.Clauses.{lastOk, lastsOk, restOk, restsOk, ceilOf, soonestOf, limitOk, limitsOk};
+use ground::Instant;
 use table::shorter;
 use table::wide;
-use ground::Instant;
 
 // Is the last arrival not later than the present tick; if there was none, is the task asleep?
 fn last_ok(arrived: bool, awake: bool, last: u64, tick: u64) -> bool

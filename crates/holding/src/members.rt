@@ -7,9 +7,9 @@ ghost use lib.ListN.{length, take};
 ghost use Rattle.queue.specs.Lent.{old};
 ghost use Rattle.plane.specs.Sound.{noMarks, fresh, mark, allFresh, allMarked, queueOk};
 ghost use Rattle.holding.specs.Clauses.{runOk, runsOk, waitsOk, slotsOk, membersOk, soundBy};
-use table::place;
 use ground::Instant;
 use queue::stands;
+use table::place;
 
 // Has the queue room for what it holds, and does its order stand?
 fn queue_ok(keys: &[u64; 128], tasks: &[u16; 128], n: usize) -> bool

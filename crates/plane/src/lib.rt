@@ -1,5 +1,4 @@
 // The state of the scheduler.
-ghost use mathlib.Core.Path.{_≡_};
 use ground::Instant;
 use queue::Queue;
 use table::Table;
@@ -21,11 +20,4 @@ pub struct State {
     pub running: Queue,
     pub waiting: Queue,
     pub slots: [u16; 16],
-}
-
-// The least number that is no task's: a slot that has it is idle.
-pub fn idle() -> u16
-    ensures is { λ r. ⌜ r ≡ 0 ⌝ }
-{
-    0
 }

@@ -1,0 +1,52 @@
+-- One call after another
+use mathlib.Core.Path.{_≡_, refl, sym, _∙_, ap}
+use mathlib.Core.Bool.{true, false}
+use mathlib.Core.List.{List, [], _∷_}
+use Prim.Native.Nat.{ℕ, suc, _+_, _*_, _-_, _≤_, _<_}
+use native.Mathlib.Numerals.{add-one}
+use native.Mathlib.Omega.{arith}
+use lib.Dec.{ltb}
+use lib.ListN.{length, getD, drop}
+use lib.Seq.{drop-cons, drop-length}
+use Rattle.ground.specs.Tests.{if_then_else_}
+use Rattle.ground.proofs.Tests.{ltb-says, is-true, is-false}
+use Rattle.plane.specs.declared.State.{State}
+use Rattle.calls.specs.declared.Arrived.{Arrived}
+use Rattle.calls.specs.declared.Stepped.{Stepped}
+use Rattle.calls.specs.Arrive.{arriveOf}
+use Rattle.calls.specs.Step.{stepOf}
+use Rattle.rules.specs.Answers.{isDone}
+use Rattle.rules.proofs.Keeping.{not-both}
+use Rattle.calls.proofs.Answering.{done-is}
+use Rattle.lines.specs.declared.Lines.{Lines}
+use Rattle.lines.specs.Lines.{RunLines}
+use Rattle.bench_step.specs.Made.{made, madeAll, Ended}
+
+pub made-arrives : (n : ℕ) (s : State) (call : ℕ) (r : Arrived) → call < 4294967296 → r ≡ arriveOf s call → r .state ≡ made n s call
+unfolding made
+made-arrives n s call r h e = rw (is-true (ltb call 4294967296) (ltb-says call 4294967296) h) (ap (λ (x : Arrived). x .state) e)
+
+pub made-steps : (n : ℕ) (s : State) (call : ℕ) (r : Stepped) → 4294967296 ≤ call → r ≡ stepOf s (call - 4294967296) n → r .state ≡ made n s call
+unfolding made
+made-steps n s call r h e = rw (is-false (ltb call 4294967296) (ltb-says call 4294967296) (λ z. omega arith)) (ap (λ (x : Stepped). x .state) e)
+
+-- what is left to do, after one call
+pub made-on : (n i : ℕ) (s k : State) (list : List ℕ) → i < length list → k ≡ made n s (getD list i 0) → madeAll n k (drop (i + 1) list) ≡ madeAll n s (drop i list)
+unfolding madeAll
+made-on n i s k list h e = rw (drop-cons list i 0 h, add-one i, e)
+
+pub made-end : (n i : ℕ) (s : State) (list : List ℕ) → length list ≤ i → i ≤ length list → madeAll n s (drop i list) ≡ s
+unfolding madeAll
+made-end n i s list h h′ = let e : i ≡ length list = omega arith in rw (e, drop-length list)
+
+-- A RUN AS TEXT
+-- it is refused: there is nothing left
+pub run-ended : (s : State) (horizon : ℕ) (out : List ℕ) (r : Lines) (out′ : List ℕ) → RunLines s horizon out r out′ → isDone (r .answer) ≡ false → Ended horizon (s .now .0)
+run-ended s horizon out r out′ R f = (s, (λ d. not-both _ (sym f ∙ ap isDone (R .answer ∙ d))), refl)
+
+-- it is not: less is left
+pub run-left : (s : State) (horizon : ℕ) (out : List ℕ) (r : Lines) (out′ : List ℕ) → RunLines s horizon out r out′ → isDone (r .answer) ≡ true
+    → horizon * r .state .table .scale - r .state .now .0 < horizon * s .table .scale - s .now .0
+run-left s horizon out r out′ R d =
+    let m = R .moves (done-is (r .answer) d) in
+    omega (arith, m .0, m .1, ap (λ (z : ℕ). horizon * z) (m .2))

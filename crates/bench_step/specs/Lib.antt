@@ -1,0 +1,2 @@
+pub mod Moments
+pub mod Made

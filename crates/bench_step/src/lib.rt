@@ -1,0 +1,294 @@
+// The scheduler under C names, for the benchmarks to time: the work in place on a state that holds together, the check
+// alone, the public calls one after another, and a run as text.
+ghost use mathlib.Core.Path.{_≡_};
+ghost use mathlib.Core.List.{_++_};
+ghost use Prim.Native.Nat.{ℕ, _*_, _<_, _≤_};
+ghost use lib.ListN.{length, drop};
+ghost use Rattle.rules.specs.Record.{recordBytes};
+ghost use Rattle.rules.proofs.Calls.{Comes};
+ghost use Rattle.plane.specs.Machine.{movedOf, arrivedOf};
+ghost use Rattle.plane.specs.View.{view};
+ghost use Rattle.whole.specs.Whole.{Whole};
+ghost use Rattle.whole.specs.Lent.{here};
+ghost use Rattle.holding.specs.Holds.{holdsOf};
+ghost use Rattle.calls.specs.Admit.{admitOf};
+ghost use Rattle.bench_step.specs.Moments.{termsOf, momentOf};
+ghost use Rattle.bench_step.specs.Made.{made, madeAll, Ended};
+ghost use Rattle.text.specs.Output.{Put, recordLines};
+use ground::Instant;
+use plane::State;
+use whole::Moment;
+use whole::Terms;
+
+// A step in place.
+#[no_mangle]
+pub extern "C" fn held_step(
+    count: usize,
+    m: usize,
+    scale: u64,
+    present: &mut u64,
+    going: &mut bool,
+    end: &mut u64,
+    running: &mut usize,
+    waiting: &mut usize,
+    horizon: u64,
+    period: &[u32; 128],
+    exec: &[u32; 128],
+    deadline: &[u32; 128],
+    share: &[u64; 128],
+    order: &[u16; 128],
+    awake: &mut [bool; 128],
+    arrived: &[bool; 128],
+    last: &[u64; 128],
+    rk: &mut [u64; 128],
+    rt: &mut [u16; 128],
+    wk: &mut [u64; 128],
+    wt: &mut [u16; 128],
+    slots: &mut [u16; 16],
+    room: &mut [u8],
+)
+    requires ready { ⌜ Whole (here (termsOf count m scale) (momentOf (now present) (now going) (now end) (now running) (now waiting)) period exec deadline share order awake arrived last rk rt wk wt slots) × (now present < horizon * scale) × (horizon ≤ 4294967295) × (48 ≤ length (now room)) ⌝ }
+    ensures is { λ _. ⌜ (here (termsOf count m scale) (momentOf (now (present .exit)) (now (going .exit)) (now (end .exit)) (now (running .exit)) (now (waiting .exit))) (period .entry) (exec .entry) (deadline .entry) (share .entry) (order .entry) (awake .exit) (arrived .entry) (last .entry) (rk .exit) (rt .exit) (wk .exit) (wt .exit) (slots .exit) ≡ movedOf (here (termsOf count m scale) (momentOf (now (present .entry)) (now (going .entry)) (now (end .entry)) (now (running .entry)) (now (waiting .entry))) (period .entry) (exec .entry) (deadline .entry) (share .entry) (order .entry) (awake .entry) (arrived .entry) (last .entry) (rk .entry) (rt .entry) (wk .entry) (wt .entry) (slots .entry)) horizon .state)
+        × (now (room .exit) ≡ recordBytes (movedOf (here (termsOf count m scale) (momentOf (now (present .entry)) (now (going .entry)) (now (end .entry)) (now (running .entry)) (now (waiting .entry))) (period .entry) (exec .entry) (deadline .entry) (share .entry) (order .entry) (awake .entry) (arrived .entry) (last .entry) (rk .entry) (rt .entry) (wk .entry) (wt .entry) (slots .entry)) horizon .rec) ++ drop 48 (now (room .entry))) ⌝ }
+{
+    let terms = Terms {
+        count: count,
+        m: m,
+        scale: scale,
+    };
+    let start = Instant(*present);
+    let moment = Moment {
+        now: start,
+        going: *going,
+        end: *end,
+        running: *running,
+        waiting: *waiting,
+    };
+    let r = whole::step_in(
+        terms,
+        moment,
+        horizon,
+        period,
+        exec,
+        deadline,
+        share,
+        order,
+        awake,
+        arrived,
+        last,
+        rk,
+        rt,
+        wk,
+        wt,
+        slots,
+        room,
+    );
+    let at = r.now;
+    *present = at.0;
+    *going = r.going;
+    *end = r.end;
+    *running = r.running;
+    *waiting = r.waiting;
+}
+
+// An arrival in place, of the task in row i.
+#[no_mangle]
+pub extern "C" fn held_arrive(
+    count: usize,
+    m: usize,
+    scale: u64,
+    present: &mut u64,
+    going: &mut bool,
+    end: &mut u64,
+    running: &mut usize,
+    waiting: &mut usize,
+    i: usize,
+    period: &[u32; 128],
+    exec: &[u32; 128],
+    deadline: &[u32; 128],
+    share: &[u64; 128],
+    order: &[u16; 128],
+    awake: &mut [bool; 128],
+    arrived: &mut [bool; 128],
+    last: &mut [u64; 128],
+    rk: &mut [u64; 128],
+    rt: &mut [u16; 128],
+    wk: &mut [u64; 128],
+    wt: &mut [u16; 128],
+    slots: &mut [u16; 16],
+)
+    requires ready { ⌜ Whole (here (termsOf count m scale) (momentOf (now present) (now going) (now end) (now running) (now waiting)) period exec deadline share order awake arrived last rk rt wk wt slots) × Comes (view (here (termsOf count m scale) (momentOf (now present) (now going) (now end) (now running) (now waiting)) period exec deadline share order awake arrived last rk rt wk wt slots)) i ⌝ }
+    ensures is { λ _. ⌜ here (termsOf count m scale) (momentOf (now (present .exit)) (now (going .exit)) (now (end .exit)) (now (running .exit)) (now (waiting .exit))) (period .entry) (exec .entry) (deadline .entry) (share .entry) (order .entry) (awake .exit) (arrived .exit) (last .exit) (rk .exit) (rt .exit) (wk .exit) (wt .exit) (slots .exit) ≡ arrivedOf (here (termsOf count m scale) (momentOf (now (present .entry)) (now (going .entry)) (now (end .entry)) (now (running .entry)) (now (waiting .entry))) (period .entry) (exec .entry) (deadline .entry) (share .entry) (order .entry) (awake .entry) (arrived .entry) (last .entry) (rk .entry) (rt .entry) (wk .entry) (wt .entry) (slots .entry)) i ⌝ }
+{
+    let terms = Terms {
+        count: count,
+        m: m,
+        scale: scale,
+    };
+    let start = Instant(*present);
+    let moment = Moment {
+        now: start,
+        going: *going,
+        end: *end,
+        running: *running,
+        waiting: *waiting,
+    };
+    let r = whole::arrive_in(
+        terms,
+        moment,
+        i,
+        period,
+        exec,
+        deadline,
+        share,
+        order,
+        awake,
+        arrived,
+        last,
+        rk,
+        rt,
+        wk,
+        wt,
+        slots,
+    );
+    let at = r.now;
+    *present = at.0;
+    *going = r.going;
+    *end = r.end;
+    *running = r.running;
+    *waiting = r.waiting;
+}
+
+// The check alone.
+#[no_mangle]
+pub extern "C" fn held_check(
+    count: usize,
+    m: usize,
+    scale: u64,
+    present: u64,
+    going: bool,
+    end: u64,
+    running: usize,
+    waiting: usize,
+    period: &[u32; 128],
+    exec: &[u32; 128],
+    deadline: &[u32; 128],
+    share: &[u64; 128],
+    order: &[u16; 128],
+    awake: &[bool; 128],
+    arrived: &[bool; 128],
+    last: &[u64; 128],
+    rk: &[u64; 128],
+    rt: &[u16; 128],
+    wk: &[u64; 128],
+    wt: &[u16; 128],
+    slots: &[u16; 16],
+) -> bool
+    ensures is { λ r. ⌜ r ≡ holdsOf (here (termsOf count m scale) (momentOf present going end running waiting) (period .entry) (exec .entry) (deadline .entry) (share .entry) (order .entry) (awake .entry) (arrived .entry) (last .entry) (rk .entry) (rt .entry) (wk .entry) (wt .entry) (slots .entry)) ⌝ }
+{
+    holding::holds_lent(
+        period,
+        exec,
+        deadline,
+        share,
+        order,
+        count,
+        m,
+        scale,
+        Instant(present),
+        going,
+        end,
+        awake,
+        arrived,
+        last,
+        rk,
+        rt,
+        running,
+        wk,
+        wt,
+        waiting,
+        slots,
+    )
+}
+
+// One public call: an arrival of this task, or from 4,294,967,296 on a step to the horizon that lies above.
+fn make(s: State, call: u64, room: &mut [u8]) -> State
+    ensures is { λ r. ⌜ (r ≡ made (length (now (room .entry))) s call) × (length (now (room .exit)) ≡ length (now (room .entry))) ⌝ }
+{
+    if call < 4294967296 {
+        let a = calls::arrive(s, call);
+        let came = a.state;
+        return came;
+    }
+    let r = calls::step(s, call - 4294967296, room);
+    let moved = r.state;
+    moved
+}
+
+// Public calls, each on the state that the last one handed back.
+fn make_all(first: State, list: &[u64], room: &mut [u8]) -> State
+    ensures is { λ r. ⌜ r ≡ madeAll (length (now (room .entry))) first (now (list .entry)) ⌝ }
+{
+    let mut s = first;
+    let mut i: usize = 0;
+    while i < list.len() {
+        s = make(s, list[i], room);
+        i += 1;
+    }
+    s
+}
+
+// The present after these calls on an admitted table.
+#[no_mangle]
+pub extern "C" fn public_calls(table: &[u8], m: usize, list: &[u64], room: &mut [u8]) -> u64
+    ensures is { λ r. ⌜ r ≡ madeAll (length (now (room .entry))) (admitOf (now (table .entry)) m .state) (now (list .entry)) .now .0 ⌝ }
+{
+    let a = calls::admit(table, m);
+    let first = a.state;
+    let s = make_all(first, list, room);
+    let present = s.now;
+    present.0
+}
+
+// The lines of n records.
+#[no_mangle]
+pub extern "C" fn record_lines(out: &mut [u8], room: &[u8], n: usize, m: usize) -> usize
+    requires room { ⌜ (m ≤ 16) × (48 * n ≤ length (now room)) × (138 * n ≤ length (now out)) ⌝ }
+    ensures is { λ r. ⌜ Put (now (out .entry)) 0 (recordLines m n (now (room .entry))) (now (out .exit)) r ⌝ }
+{
+    text::put_records(out, room, n, m)
+}
+
+// Runs to a horizon, part by part; the lines of each part are written over those of the one before.
+fn lines_to(s: State, horizon: u64, out: &mut [u8; 65536]) -> u64
+    ensures ends { λ r. ⌜ Ended horizon r ⌝ }
+{
+    let mut state = s;
+    loop {
+        let r = lines::run_lines(state, horizon, out);
+        let answer = r.answer;
+        if !table::is_done(answer) {
+            let present = state.now;
+            return present.0;
+        }
+        state = r.state;
+    }
+}
+
+// The present after these calls on an admitted table, and then a run to a horizon, as text.
+#[no_mangle]
+pub extern "C" fn public_lines(
+    table: &[u8],
+    m: usize,
+    list: &[u64],
+    horizon: u64,
+    out: &mut [u8; 65536],
+) -> u64
+    ensures ends { λ r. ⌜ Ended horizon r ⌝ }
+{
+    let a = calls::admit(table, m);
+    let first = a.state;
+    let mut room = [0u8; 48];
+    let s = make_all(first, list, &mut room);
+    lines_to(s, horizon, out)
+}
