@@ -14,20 +14,22 @@ use Rattle.rules.specs.Answers.{isDone}
 use Rattle.plane.specs.declared.State.{State}
 use Rattle.calls.proofs.Answering.{done-is}
 use Rattle.text.specs.declared.Checked.{Checked}
-use Rattle.text.specs.declared.Checked.the-variants.{Good, Broken}
+use Rattle.text.specs.declared.Checked.the-variants.{Broken}
 use Rattle.text.specs.Form.{formOf, formFrom}
 use Rattle.text.specs.Parts.{splitBy, newline}
 use Rattle.lines.specs.declared.Lines.{Lines}
 use Rattle.lines.specs.Lines.{RunLines}
+use Rattle.rules.proofs.Keeping.{not-both}
 use Rattle.listing.specs.Onward.{Onward}
+use Rattle.listing.specs.Good.{isGood}
 
 -- a text of good form is no longer than 65,536 bytes
-pub good-short : (text : List ℕ) → formOf text ≡ Good → length text ≤ 65536
+pub good-short : (text : List ℕ) → isGood (formOf text) ≡ true → length text ≤ 65536
 unfolding formOf
 good-short text = go (ltb 65536 (length text)) (ltb-says 65536 (length text))
   where
-    go : (b : Bool) → Says (65536 < length text) b → (if b then Broken 0 else formFrom 0 1 (splitBy newline text)) ≡ Good → length text ≤ 65536
-    go true h e = let z : _≡_ {A = ℕ} 0 1 = cc in absurd (omega arith)
+    go : (b : Bool) → Says (65536 < length text) b → isGood (if b then Broken 0 else formFrom 0 1 (splitBy newline text)) ≡ true → length text ≤ 65536
+    go true h e = not-both _ e
     go false h e = omega (arith, h)
 
 pub goes-onward : (s : State) (tick : ℕ) (out : List ℕ) (r : Lines) (out′ : List ℕ) → RunLines s tick out r out′ → isDone (r .answer) ≡ true → Onward s tick (r .state)

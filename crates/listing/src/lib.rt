@@ -3,7 +3,9 @@ ghost use mathlib.Core.Path.{_≡_};
 ghost use mathlib.Core.Bool.{true};
 ghost use Prim.Native.Nat.{_≤_};
 ghost use lib.ListN.{length};
+ghost use Rattle.text.specs.Form.{formOf};
 ghost use Rattle.listing.specs.Onward.{Onward};
+ghost use Rattle.listing.specs.Good.{isGood};
 use libc::STDOUT_FILENO;
 use plane::State;
 use rules::Answer;
@@ -194,7 +196,7 @@ fn run(s: &[u8])
 
 // Whether the text is of good form; if not, it says so.
 fn checked(s: &[u8]) -> bool
-    ensures short { λ r. ⌜ (r ≡ true → length (now (s .entry)) ≤ 65536) ⌝ }
+    ensures is { λ r. ⌜ r ≡ isGood (formOf (now (s .entry))) ⌝ }
 {
     let c = text::form(s);
     match c {

@@ -1,15 +1,14 @@
 use borrow.Author.Needs.{needs}
-use mathlib.Core.Path.{_≡_, sym, _∙_}
-use Rattle.rules.proofs.Keeping.{not-both}
-use Rattle.listing.proofs.Walking.{good-short}
+use mathlib.Core.Path.{sym, ap, _∙_}
+use Rattle.listing.specs.Good.{isGood}
 use Rattle.listing.proofs.checked.Statement.{statement}
 use Rattle.listing.proofs.checked.Tie as tie
 
 returns : tie.Need-returns
-returns c = λ _. good-short _ (sym (c .before .before .form .ensures) ∙ c .enum-told .given .1)
+returns c = sym (ap isGood (sym (c .before .before .form .ensures) ∙ c .enum-told .given .1))
 
 returns-2 : tie.Need-returns-2
-returns-2 c = λ e. not-both _ e
+returns-2 c = let k = c .before .before in sym (ap isGood (sym (k .before .before .form .ensures) ∙ k .c .given .1))
 
 pub checked-spec : {M : Type 1} → statement M
 checked-spec =
