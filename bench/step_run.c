@@ -12,10 +12,8 @@
 
 // bench_step, and the same of its lent columns
 #define TABLE const uint32_t *, const uint32_t *, const uint32_t *, const uint64_t *, const uint16_t *
-void held_step(size_t, size_t, uint64_t, uint64_t *, bool *, uint64_t *, size_t *, size_t *, uint64_t, TABLE, bool *, const bool *,
-    const uint64_t *, uint64_t *, uint16_t *, uint64_t *, uint16_t *, uint16_t *, uint8_t *, size_t);
-void held_arrive(size_t, size_t, uint64_t, uint64_t *, bool *, uint64_t *, size_t *, size_t *, size_t, TABLE, bool *, bool *, uint64_t *,
-    uint64_t *, uint16_t *, uint64_t *, uint16_t *, uint16_t *);
+void held_calls(size_t, size_t, uint64_t, uint64_t *, bool *, uint64_t *, size_t *, size_t *, const uint64_t *, size_t, TABLE, bool *, bool *,
+    uint64_t *, uint64_t *, uint16_t *, uint64_t *, uint16_t *, uint16_t *, uint8_t *, size_t);
 bool held_check(size_t, size_t, uint64_t, uint64_t, bool, uint64_t, size_t, size_t, TABLE, const bool *, const bool *, const uint64_t *,
     const uint64_t *, const uint16_t *, const uint64_t *, const uint16_t *, const uint16_t *);
 uint64_t public_calls(const uint8_t *, size_t, size_t, const uint64_t *, size_t, uint8_t *, size_t);
@@ -48,19 +46,15 @@ static void in_plain_c(const Scenario *c, Left *left) {
     left->present = s.now;
 }
 
+// a call as one number: the task that arrives, or from 4,294,967,296 on the horizon
+static uint64_t list[CALLS];
+
 static void in_place(const Scenario *c, Left *left) {
     static Plain s;
     plain_admit(c->table, c->table_len, c->m, &s);
-    for (size_t i = 0; i < c->len; i++) {
-        if (c->calls[i].task)
-            held_arrive(MOMENT(&s), c->calls[i].task - 1, COLUMNS(&s), (bool *)s.awake, (bool *)s.arrived, s.last, QUEUES(&s));
-        else
-            held_step(MOMENT(&s), c->calls[i].horizon, COLUMNS(&s), (bool *)s.awake, (bool *)s.arrived, s.last, QUEUES(&s), left->record, 48);
-    }
+    held_calls(MOMENT(&s), list, c->len, COLUMNS(&s), (bool *)s.awake, (bool *)s.arrived, s.last, QUEUES(&s), left->record, 48);
     left->present = s.now;
 }
-
-static uint64_t list[CALLS];
 
 static void by_public_calls(const Scenario *c, Left *left) {
     left->present = public_calls(c->table, c->table_len, c->m, list, c->len, left->record, 48);

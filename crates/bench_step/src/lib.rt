@@ -1,18 +1,14 @@
 // The scheduler under C names, for the benchmarks to time: the work in place on a state that holds together, the check
 // alone, the public calls one after another, and a run as text.
 ghost use mathlib.Core.Path.{_≡_};
-ghost use mathlib.Core.List.{_++_};
 ghost use Prim.Native.Nat.{ℕ, _*_, _<_, _≤_};
-ghost use lib.ListN.{length, drop};
-ghost use Rattle.rules.specs.Record.{recordBytes};
-ghost use Rattle.rules.proofs.Calls.{Comes};
-ghost use Rattle.plane.specs.Machine.{movedOf, arrivedOf};
-ghost use Rattle.plane.specs.View.{view};
+ghost use lib.ListN.{length};
 ghost use Rattle.whole.specs.Whole.{Whole};
 ghost use Rattle.whole.specs.Lent.{here};
 ghost use Rattle.holding.specs.Holds.{holdsOf};
 ghost use Rattle.calls.specs.Admit.{admitOf};
 ghost use Rattle.bench_step.specs.Moments.{termsOf, momentOf};
+ghost use Rattle.bench_step.specs.Held.{Taken, doneOf, AllTaken, doneAll};
 ghost use Rattle.bench_step.specs.Made.{made, madeAll, Ended};
 ghost use Rattle.text.specs.Output.{Put, recordLines};
 use ground::Instant;
@@ -20,54 +16,53 @@ use plane::State;
 use whole::Moment;
 use whole::Terms;
 
-// A step in place.
-#[no_mangle]
-pub extern "C" fn held_step(
-    count: usize,
-    m: usize,
-    scale: u64,
-    present: &mut u64,
-    going: &mut bool,
-    end: &mut u64,
-    running: &mut usize,
-    waiting: &mut usize,
-    horizon: u64,
+// One call in place: an arrival of this task, or from 4,294,967,296 on a step to the horizon that lies above.
+fn held_call(
+    terms: Terms,
+    moment: Moment,
+    call: u64,
     period: &[u32; 128],
     exec: &[u32; 128],
     deadline: &[u32; 128],
     share: &[u64; 128],
     order: &[u16; 128],
     awake: &mut [bool; 128],
-    arrived: &[bool; 128],
-    last: &[u64; 128],
+    arrived: &mut [bool; 128],
+    last: &mut [u64; 128],
     rk: &mut [u64; 128],
     rt: &mut [u16; 128],
     wk: &mut [u64; 128],
     wt: &mut [u16; 128],
     slots: &mut [u16; 16],
     room: &mut [u8],
-)
-    requires ready { ⌜ Whole (here (termsOf count m scale) (momentOf (now present) (now going) (now end) (now running) (now waiting)) period exec deadline share order awake arrived last rk rt wk wt slots) × (now present < horizon * scale) × (horizon ≤ 4294967295) × (48 ≤ length (now room)) ⌝ }
-    ensures is { λ _. ⌜ (here (termsOf count m scale) (momentOf (now (present .exit)) (now (going .exit)) (now (end .exit)) (now (running .exit)) (now (waiting .exit))) (period .entry) (exec .entry) (deadline .entry) (share .entry) (order .entry) (awake .exit) (arrived .entry) (last .entry) (rk .exit) (rt .exit) (wk .exit) (wt .exit) (slots .exit) ≡ movedOf (here (termsOf count m scale) (momentOf (now (present .entry)) (now (going .entry)) (now (end .entry)) (now (running .entry)) (now (waiting .entry))) (period .entry) (exec .entry) (deadline .entry) (share .entry) (order .entry) (awake .entry) (arrived .entry) (last .entry) (rk .entry) (rt .entry) (wk .entry) (wt .entry) (slots .entry)) horizon .state)
-        × (now (room .exit) ≡ recordBytes (movedOf (here (termsOf count m scale) (momentOf (now (present .entry)) (now (going .entry)) (now (end .entry)) (now (running .entry)) (now (waiting .entry))) (period .entry) (exec .entry) (deadline .entry) (share .entry) (order .entry) (awake .entry) (arrived .entry) (last .entry) (rk .entry) (rt .entry) (wk .entry) (wt .entry) (slots .entry)) horizon .rec) ++ drop 48 (now (room .entry))) ⌝ }
+) -> Moment
+    requires taken { ⌜ Whole (here terms moment period exec deadline share order awake arrived last rk rt wk wt slots) × Taken (here terms moment period exec deadline share order awake arrived last rk rt wk wt slots) call × (48 ≤ length (now room)) ⌝ }
+    ensures is { λ r. ⌜ (here terms r (period .entry) (exec .entry) (deadline .entry) (share .entry) (order .entry) (awake .exit) (arrived .exit) (last .exit) (rk .exit) (rt .exit) (wk .exit) (wt .exit) (slots .exit) ≡ doneOf (here terms moment (period .entry) (exec .entry) (deadline .entry) (share .entry) (order .entry) (awake .entry) (arrived .entry) (last .entry) (rk .entry) (rt .entry) (wk .entry) (wt .entry) (slots .entry)) call) × (length (now (room .exit)) ≡ length (now (room .entry))) ⌝ }
 {
-    let terms = Terms {
-        count: count,
-        m: m,
-        scale: scale,
-    };
-    let start = Instant(*present);
-    let moment = Moment {
-        now: start,
-        going: *going,
-        end: *end,
-        running: *running,
-        waiting: *waiting,
-    };
-    let r = whole::step_in(
+    if call < 4294967296 {
+        return whole::arrive_in(
+            terms,
+            moment,
+            (call - 1) as usize,
+            period,
+            exec,
+            deadline,
+            share,
+            order,
+            awake,
+            arrived,
+            last,
+            rk,
+            rt,
+            wk,
+            wt,
+            slots,
+        );
+    }
+    whole::step_in(
         terms,
         moment,
-        horizon,
+        call - 4294967296,
         period,
         exec,
         deadline,
@@ -82,18 +77,12 @@ pub extern "C" fn held_step(
         wt,
         slots,
         room,
-    );
-    let at = r.now;
-    *present = at.0;
-    *going = r.going;
-    *end = r.end;
-    *running = r.running;
-    *waiting = r.waiting;
+    )
 }
 
-// An arrival in place, of the task in row i.
+// Calls in place, one after another.
 #[no_mangle]
-pub extern "C" fn held_arrive(
+pub extern "C" fn held_calls(
     count: usize,
     m: usize,
     scale: u64,
@@ -102,7 +91,7 @@ pub extern "C" fn held_arrive(
     end: &mut u64,
     running: &mut usize,
     waiting: &mut usize,
-    i: usize,
+    list: &[u64],
     period: &[u32; 128],
     exec: &[u32; 128],
     deadline: &[u32; 128],
@@ -116,9 +105,10 @@ pub extern "C" fn held_arrive(
     wk: &mut [u64; 128],
     wt: &mut [u16; 128],
     slots: &mut [u16; 16],
+    room: &mut [u8],
 )
-    requires ready { ⌜ Whole (here (termsOf count m scale) (momentOf (now present) (now going) (now end) (now running) (now waiting)) period exec deadline share order awake arrived last rk rt wk wt slots) × Comes (view (here (termsOf count m scale) (momentOf (now present) (now going) (now end) (now running) (now waiting)) period exec deadline share order awake arrived last rk rt wk wt slots)) i ⌝ }
-    ensures is { λ _. ⌜ here (termsOf count m scale) (momentOf (now (present .exit)) (now (going .exit)) (now (end .exit)) (now (running .exit)) (now (waiting .exit))) (period .entry) (exec .entry) (deadline .entry) (share .entry) (order .entry) (awake .exit) (arrived .exit) (last .exit) (rk .exit) (rt .exit) (wk .exit) (wt .exit) (slots .exit) ≡ arrivedOf (here (termsOf count m scale) (momentOf (now (present .entry)) (now (going .entry)) (now (end .entry)) (now (running .entry)) (now (waiting .entry))) (period .entry) (exec .entry) (deadline .entry) (share .entry) (order .entry) (awake .entry) (arrived .entry) (last .entry) (rk .entry) (rt .entry) (wk .entry) (wt .entry) (slots .entry)) i ⌝ }
+    requires taken { ⌜ Whole (here (termsOf count m scale) (momentOf (now present) (now going) (now end) (now running) (now waiting)) period exec deadline share order awake arrived last rk rt wk wt slots) × AllTaken (here (termsOf count m scale) (momentOf (now present) (now going) (now end) (now running) (now waiting)) period exec deadline share order awake arrived last rk rt wk wt slots) (now list) × (48 ≤ length (now room)) ⌝ }
+    ensures is { λ _. ⌜ here (termsOf count m scale) (momentOf (now (present .exit)) (now (going .exit)) (now (end .exit)) (now (running .exit)) (now (waiting .exit))) (period .entry) (exec .entry) (deadline .entry) (share .entry) (order .entry) (awake .exit) (arrived .exit) (last .exit) (rk .exit) (rt .exit) (wk .exit) (wt .exit) (slots .exit) ≡ doneAll (here (termsOf count m scale) (momentOf (now (present .entry)) (now (going .entry)) (now (end .entry)) (now (running .entry)) (now (waiting .entry))) (period .entry) (exec .entry) (deadline .entry) (share .entry) (order .entry) (awake .entry) (arrived .entry) (last .entry) (rk .entry) (rt .entry) (wk .entry) (wt .entry) (slots .entry)) (now (list .entry)) ⌝ }
 {
     let terms = Terms {
         count: count,
@@ -126,31 +116,36 @@ pub extern "C" fn held_arrive(
         scale: scale,
     };
     let start = Instant(*present);
-    let moment = Moment {
+    let mut r = Moment {
         now: start,
         going: *going,
         end: *end,
         running: *running,
         waiting: *waiting,
     };
-    let r = whole::arrive_in(
-        terms,
-        moment,
-        i,
-        period,
-        exec,
-        deadline,
-        share,
-        order,
-        awake,
-        arrived,
-        last,
-        rk,
-        rt,
-        wk,
-        wt,
-        slots,
-    );
+    let mut i: usize = 0;
+    while i < list.len() {
+        r = held_call(
+            terms,
+            r,
+            list[i],
+            period,
+            exec,
+            deadline,
+            share,
+            order,
+            awake,
+            arrived,
+            last,
+            rk,
+            rt,
+            wk,
+            wt,
+            slots,
+            room,
+        );
+        i += 1;
+    }
     let at = r.now;
     *present = at.0;
     *going = r.going;

@@ -1,0 +1,115 @@
+// A run as text: the program's loop, which steps and formats, and the formatting alone, each against plain C on the same records.
+#define _POSIX_C_SOURCE 199309L
+#include <stdio.h>
+#include <string.h>
+#include <time.h>
+
+#include "plain.h"
+
+// bench_step
+size_t record_lines(uint8_t *, size_t, const uint8_t *, size_t, size_t, size_t);
+uint64_t public_lines(const uint8_t *, size_t, size_t, const uint64_t *, size_t, uint64_t, uint8_t *);
+
+enum { PART = 474, HORIZON = 5040, REPEATS = 7 };
+
+static double nanoseconds(void) {
+    struct timespec t;
+    clock_gettime(CLOCK_MONOTONIC, &t);
+    return 1e9 * (double)t.tv_sec + (double)t.tv_nsec;
+}
+
+static uint8_t *put_decimal(uint8_t *out, uint64_t x) {
+    uint8_t digits[20];
+    int n = 0;
+    do digits[n++] = (uint8_t)('0' + x % 10);
+    while (x /= 10);
+    while (n) *out++ = digits[--n];
+    return out;
+}
+
+static size_t plain_lines(uint8_t *out, const uint8_t *room, size_t n, size_t m) {
+    uint8_t *at = out;
+    for (; n; n--, room += 48) {
+        uint64_t instants[2];
+        uint16_t slots[16];
+        memcpy(instants, room, 16);
+        memcpy(slots, room + 16, 32);
+        at = put_decimal(at, instants[0]);
+        *at++ = ' ';
+        at = put_decimal(at, instants[1]);
+        for (size_t p = 0; p < m; p++) {
+            *at++ = ' ';
+            at = put_decimal(at, slots[p]);
+        }
+        *at++ = '\n';
+    }
+    return (size_t)(at - out);
+}
+
+// One task asleep whose q is a tick, so that every plane is a tick long; the others share what it leaves.
+static size_t make_table(uint8_t *table, unsigned n, unsigned m) {
+    uint32_t each = HORIZON * (m - 1) / (n - 1), e = each < 1 ? 1 : each > HORIZON ? HORIZON : each;
+    for (unsigned i = 0; i < n; i++) {
+        uint32_t row[3] = {i + 1 < n ? HORIZON : 1, i + 1 < n ? e : 1, i + 1 < n ? HORIZON : 1};
+        memcpy(table + 12 * i, row, 12);
+    }
+    return 12 * (size_t)n;
+}
+
+static uint8_t table[1536], room[48 * PART], lines[65536], plain_out[65536];
+static uint64_t arrivals[127];
+
+// The whole run, part by part; how many records.
+static size_t plain_text(size_t len, unsigned n, unsigned m, size_t *last) {
+    static Plain s;
+    size_t records = 0, part;
+    plain_admit(table, len, m, &s);
+    for (unsigned task = 1; task < n; task++) plain_arrive(&s, task);
+    while (s.now < HORIZON * s.scale) {
+        part = plain_run(&s, HORIZON, room, PART);
+        *last = plain_lines(plain_out, room, part, m);
+        records += part;
+    }
+    return records;
+}
+
+#define BEST(time, call)                                  \
+    do {                                                  \
+        for (int turn = 0; turn < REPEATS; turn++) {      \
+            double from = nanoseconds();                  \
+            call;                                         \
+            double took = nanoseconds() - from;           \
+            if (turn == 0 || took < time) time = took;    \
+        }                                                 \
+    } while (0)
+
+int main(void) {
+    static const unsigned tasks[] = {8, 32, 128}, processors[] = {2, 4, 16};
+    for (unsigned i = 0; i < 127; i++) arrivals[i] = i + 1;
+    printf("  n   m  lines | steps and lines: plain C, the program's loop | lines alone: plain C, put_records   (ns a line, ratio)\n");
+    for (int a = 0; a < 3; a++)
+        for (int b = 0; b < 3; b++) {
+            unsigned n = tasks[a], m = processors[b];
+            size_t len = make_table(table, n, m), records = 0, last = 0, bytes = 0;
+            double plain = 0, loop = 0, plain_alone = 0, alone = 0;
+            BEST(plain, records = plain_text(len, n, m, &last));
+            BEST(loop, public_lines(table, len, m, arrivals, n - 1, HORIZON, lines));
+            if (memcmp(lines, plain_out, last)) {
+                printf("the texts differ\n");
+                return 1;
+            }
+            static Plain s;
+            plain_admit(table, len, m, &s);
+            for (unsigned task = 1; task < n; task++) plain_arrive(&s, task);
+            plain_run(&s, HORIZON, room, PART);
+            BEST(plain_alone, last = plain_lines(plain_out, room, PART, m));
+            BEST(alone, bytes = record_lines(lines, sizeof lines, room, sizeof room, PART, m));
+            if (bytes != last || memcmp(lines, plain_out, last)) {
+                printf("the lines differ\n");
+                return 1;
+            }
+            printf("%3u  %2u  %5zu | %6.1f  %6.1f  %4.2f | %6.1f  %6.1f  %4.2f\n", n, m, records, plain / (double)records, loop / (double)records,
+                loop / plain, plain_alone / PART, alone / PART, alone / plain_alone);
+        }
+    return 0;
+}
