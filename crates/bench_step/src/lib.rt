@@ -115,19 +115,23 @@ pub extern "C" fn held_calls(
         m: m,
         scale: scale,
     };
-    let start = Instant(*present);
-    let mut r = Moment {
-        now: start,
-        going: *going,
-        end: *end,
-        running: *running,
-        waiting: *waiting,
-    };
+    let mut at = Instant(*present);
+    let mut is_going = *going;
+    let mut ends = *end;
+    let mut run = *running;
+    let mut wait = *waiting;
     let mut i: usize = 0;
     while i < list.len() {
-        r = held_call(
+        let moment = Moment {
+            now: at,
+            going: is_going,
+            end: ends,
+            running: run,
+            waiting: wait,
+        };
+        let r = held_call(
             terms,
-            r,
+            moment,
             list[i],
             period,
             exec,
@@ -144,14 +148,18 @@ pub extern "C" fn held_calls(
             slots,
             room,
         );
+        at = r.now;
+        is_going = r.going;
+        ends = r.end;
+        run = r.running;
+        wait = r.waiting;
         i += 1;
     }
-    let at = r.now;
     *present = at.0;
-    *going = r.going;
-    *end = r.end;
-    *running = r.running;
-    *waiting = r.waiting;
+    *going = is_going;
+    *end = ends;
+    *running = run;
+    *waiting = wait;
 }
 
 // The check alone.

@@ -375,7 +375,13 @@ pub fn arrive_in(
     arrived[i] = true;
     last[i] = tick;
     if !moment.going {
-        return moment;
+        return Moment {
+            now: present,
+            going: moment.going,
+            end: moment.end,
+            running: moment.running,
+            waiting: moment.waiting,
+        };
     }
     let ends = Instant(moment.end * terms.scale);
     let head = Head {
