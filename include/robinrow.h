@@ -101,7 +101,8 @@ uint32_t robinrow_arrive(uint8_t *state, size_t state_len, uint64_t task);
 uint32_t robinrow_step(uint8_t *state, size_t state_len, uint64_t horizon, uint8_t *room, size_t room_len);
 
 /* Step after step with one horizon, record after record, while the horizon lies ahead and 48 bytes of the room are left; bytes of
- * the room after the last record stay. Gives number + 256 * records, with no records where the number is not 0. */
+ * the room after the last record stay. Gives number + 256 * records, with no records where the number is not 0. Of a room above
+ * 2^56 bytes the rest is not used. */
 uint64_t robinrow_run(uint8_t *state, size_t state_len, uint64_t horizon, uint8_t *room, size_t room_len);
 
 #ifdef __cplusplus

@@ -21,9 +21,9 @@ use Rattle.rules.specs.Answers.{numberOf, isDone}
 use Rattle.rules.specs.Reasons.{AdmitReason, StepReason}
 use Rattle.rules.specs.Record.{Record, recordBytes}
 use Rattle.rules.specs.Computed.{computed}
-use Rattle.rules.specs.Figures.{tableOf, tableP1, towards, line, listing}
+use Rattle.rules.specs.Figures.{tableP1, towards, line, listing}
 use Rattle.rules.proofs.Figures.{figures}
-use Rattle.rules.specs.Table.{rowsOf}
+use Rattle.rules.specs.Table.{rowsOf, tableBytes}
 use Rattle.rules.proofs.Demands.{by-answer, admit-passes, start-good}
 use Rattle.rules.proofs.Keeping.{not-both}
 use Rattle.rules.proofs.Refusing.{step-answers, admit-answers}
@@ -97,7 +97,7 @@ records-same bytes m d cs =
     all-together cs (starting bytes m) (Rule.starting (admit bytes m .state)) (record { whole = w .0; same = w .1; records = refl }) .records
 
 -- P1's table is admitted
-admitted-P1 : admit (tableOf tableP1) 2 .answer ≡ Done
+admitted-P1 : admit (tableBytes tableP1) 2 .answer ≡ Done
 unfolding computed
 admitted-P1 = refl
 
@@ -107,10 +107,10 @@ ruleCallsP1 = Rule.arriveCall 1 ∷ Rule.arriveCall 2 ∷ Rule.arriveCall 3 ∷ 
 pub met : Say.Met
 unfolding listing
 met =
-    let d = answer-same (tableOf tableP1) 2 .0 ∙ admitted-P1 in
+    let d = answer-same (tableBytes tableP1) 2 .0 ∙ admitted-P1 in
     record {
       admitted = d;
-      records = ap (map (λ (r : Record). line (r .from) (r .to) (take 2 (r .slots)))) (records-same (tableOf tableP1) 2 d ruleCallsP1) ∙ figures .listings .p1;
+      records = ap (map (λ (r : Record). line (r .from) (r .to) (take 2 (r .slots)))) (records-same (tableBytes tableP1) 2 d ruleCallsP1) ∙ figures .listings .p1;
     }
 
 -- DEMAND 2

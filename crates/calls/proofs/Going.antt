@@ -7,8 +7,8 @@ use native.Mathlib.Omega.{arith}
 use lib.ListN.{length, take, drop, length-append, length-drop}
 use lib.Seq.{drop-drop, take-all, drop-length}
 use Rattle.rules.specs.Record.{recordBytes}
-use Rattle.room.specs.Pasted.{pasted}
-use Rattle.room.proofs.Pastes.{grown}
+use Rattle.ground.specs.Bytes.{pasted}
+use Rattle.ground.proofs.Bytes.{grown}
 use Rattle.plane.specs.declared.State.{State}
 use Rattle.plane.specs.Machine.{movedOf}
 use Rattle.whole.specs.Whole.{Whole}

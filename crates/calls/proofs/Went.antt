@@ -12,7 +12,7 @@ use Rattle.rules.proofs.Keeping.{not-both}
 use Rattle.ground.specs.Bytes.{le}
 use Rattle.ground.proofs.Bytes.{length-le}
 use Rattle.rules.specs.Record.{slotBytes, recordBytes}
-use Rattle.room.proofs.Pastes.{length-slots}
+use Rattle.room.proofs.Slots.{length-slots}
 use Rattle.whole.proofs.Opening.{open-whole}
 use Rattle.plane.specs.declared.State.{State}
 use Rattle.plane.specs.Machine.{openedOf, moveTo, movedOf}

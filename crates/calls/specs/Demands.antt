@@ -6,6 +6,7 @@ use mathlib.Core.List.{List, [], _∷_, _++_, foldl, map}
 use Prim.Native.Nat.{ℕ, zero, suc, _+_, _*_, _-_, _/_, _≤_, _<_}
 use lib.ListN.{length, getD, take, drop, replicate}
 use Rattle.ground.specs.Tests.{if_then_else_, Says}
+use Rattle.rules.specs.Table.{tableBytes}
 use Rattle.rules.specs.declared.Answer.{Answer}
 use Rattle.rules.specs.declared.Answer.the-variants.{Done, NotTogether}
 use Rattle.rules.specs.Answers.{isDone, numberOf}
@@ -13,7 +14,7 @@ use Rattle.rules.specs.Admission.{admit}
 use Rattle.rules.specs.Record.{Record, readRecord}
 use Rattle.rules.specs.Calls.{arrive, step}
 use Rattle.rules.specs.Demands.{ran, Once, Follows}
-use Rattle.rules.specs.Figures.{tableOf, tableP1, line}
+use Rattle.rules.specs.Figures.{tableP1, line}
 use Rattle.plane.specs.declared.State.{State}
 use Rattle.plane.specs.Machine.{shorterAt}
 use Rattle.plane.specs.View.{view, Sized}
@@ -156,10 +157,10 @@ callsP1 = arriveCall 1 ∷ arriveCall 2 ∷ arriveCall 3 ∷ arriveCall 4 ∷ on
 
 -- and there are such calls: P1's table is admitted, and its calls hand out P1's records
 abbrev pub runP1 : Calls
-runP1 = callingAll (starting (tableOf tableP1) 2) callsP1
+runP1 = callingAll (starting (tableBytes tableP1) 2) callsP1
 
 pub record Met : Type 0 where
-  pub admitted : admitOf (tableOf tableP1) 2 .answer ≡ Done
+  pub admitted : admitOf (tableBytes tableP1) 2 .answer ≡ Done
   pub records : map (λ (r : Record). line (r .from) (r .to) (take 2 (r .slots))) (runP1 .records) ≡ line 0 24 (1 ∷ 2 ∷ []) ∷ line 24 27 (1 ∷ 3 ∷ []) ∷ line 27 36 (4 ∷ 3 ∷ []) ∷ []
 
 -- DEMAND 2: a call on a state that does not hold together is refused by 13; on one that does, it is the rules' call

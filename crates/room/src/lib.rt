@@ -1,43 +1,26 @@
 // A record's 48 bytes, written into lent room.
 ghost use mathlib.Core.Path.{_≡_};
-ghost use mathlib.Core.List.{List, _++_};
-ghost use Prim.Native.Nat.{ℕ, _+_, _≤_};
+ghost use mathlib.Core.List.{_++_};
+ghost use Prim.Native.Nat.{_+_, _≤_};
 ghost use lib.ListN.{length, take, drop};
 ghost use Rattle.ground.specs.Bytes.{le};
 ghost use Rattle.rules.specs.Record.{slotBytes, recordBytes};
-ghost use Rattle.room.specs.Pasted.{pasted};
 use ground::Instant;
-
-// A slot: two bytes, least first.
-fn put16(room: &mut [u8], at: usize, x: u16)
-    requires fits { ⌜ at + 2 ≤ length (now room) ⌝ }
-    ensures is { λ _. ⌜ now (room .exit) ≡ pasted (now (room .entry)) at (le 2 x) ⌝ }
-{
-    room[at] = (x % 256) as u8;
-    room[at + 1] = (x / 256 % 256) as u8;
-}
-
-// An instant: eight bytes, least first.
-fn put64(room: &mut [u8], at: usize, x: u64)
-    requires fits { ⌜ at + 8 ≤ length (now room) ⌝ }
-    ensures is { λ _. ⌜ now (room .exit) ≡ pasted (now (room .entry)) at (le 8 x) ⌝ }
-{
-    let mut i: usize = 0;
-    let mut y = x;
-    while i < 8 {
-        room[at + i] = (y % 256) as u8;
-        y = y / 256;
-        i += 1;
-    }
-}
 
 // From and to.
 fn put_head(room: &mut [u8], from: u64, to: u64)
     requires fits { ⌜ 16 ≤ length (now room) ⌝ }
     ensures is { λ _. ⌜ now (room .exit) ≡ le 8 from ++ le 8 to ++ drop 16 (now (room .entry)) ⌝ }
 {
-    put64(room, 0, from);
-    put64(room, 8, to);
+    ground::put(room, 0, from, 8);
+    ground::put(room, 8, to, 8);
+}
+
+// A slot as a number of 64 bits.
+fn wide(x: u16) -> u64
+    ensures is { λ r. ⌜ r ≡ x ⌝ }
+{
+    x as u64
 }
 
 // An array taken as a slice: nothing is done, and the proofs learn its length.
@@ -58,7 +41,7 @@ fn put_slots(room: &mut [u8], slots: &[u16; 16])
     measure(slots);
     let mut k: usize = 0;
     while k < 16 {
-        put16(room, 16 + 2 * k, slots[k]);
+        ground::put(room, 16 + 2 * k, wide(slots[k]), 2);
         k += 1;
     }
 }

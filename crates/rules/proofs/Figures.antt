@@ -14,43 +14,40 @@ use Rattle.ground.specs.Sums.{sumOf}
 use Rattle.ground.proofs.Tests.{of-true}
 use Rattle.rules.specs.Admission.{plain, admitVerdict}
 use Rattle.rules.specs.Calls.{arriveAnswer}
-use Rattle.rules.specs.Figures.{row, tableOf, listing, Figures}
+use Rattle.rules.specs.Figures.{row, listing, Figures}
 use Rattle.rules.specs.Holds.{holds}
 use Rattle.rules.specs.Reasons.{LengthOk, RowsOk}
 use Rattle.rules.specs.Scale.{scaleOf}
 use Rattle.rules.specs.State.{State, at, period, tickOf}
-use Rattle.rules.specs.Table.{Row, rowsOf, shorter}
+use Rattle.rules.specs.Table.{Row, rowsOf, shorter, tableBytes}
 use Rattle.rules.specs.Together.{InRange, Together}
 use Rattle.rules.proofs.Calls.{tick-of}
 use Rattle.rules.proofs.Holding.{holds-says}
 use Rattle.rules.specs.Listings.{listings}
-use Rattle.rules.proofs.Reading.{row-read}
+use Rattle.rules.proofs.Reading.{table-rows}
 use Rattle.rules.proofs.Refusing.{admit-exact, arrive-exact}
 use Rattle.rules.proofs.Scale.{scale-unique, share-at-most}
 use Rattle.rules.proofs.Standing.{facts}
 
 -- a table of one row
 module _ (r : Row) (p : InRange (r .period)) (e : InRange (r .exec)) (d : InRange (r .deadline)) where
-  wide : (x : ℕ) → x ≤ 1048576 → x < 256 ^ 4
-  wide x h = let b : 1048576 < 256 ^ 4 = lit< tt in omega arith
+  rows-are : rowsOf (tableBytes (r ∷ [])) ≡ r ∷ []
+  rows-are = table-rows (r ∷ []) ((omega (arith, p .1), omega (arith, e .1), omega (arith, d .1)), tt)
 
-  rows-are : rowsOf (tableOf (r ∷ [])) ≡ r ∷ []
-  rows-are = row-read r (wide (r .period) (p .1)) (wide (r .exec) (e .1)) (wide (r .deadline) (d .1))
-
-  size-is : length (tableOf (r ∷ [])) ≡ 12
-  unfolding tableOf le
+  size-is : length (tableBytes (r ∷ [])) ≡ 12
+  unfolding tableBytes le
   size-is = refl
 
-  length-ok : LengthOk (length (tableOf (r ∷ [])))
+  length-ok : LengthOk (length (tableBytes (r ∷ [])))
   length-ok = rw size-is (lit≤ tt, lit≤ tt, refl)
 
   scale-one : scaleOf (r ∷ []) ≡ shorter r
   scale-one = sym (scale-unique (r ∷ []) (shorter r) (elim [ zero ↦ λ h. dvd-refl (shorter r) | suc j ↦ λ h. absurd (omega arith) ]) (λ c m. m 0 (omega arith)))
 
-  one-admitted : r .exec ≤ shorter r → admitVerdict (tableOf (r ∷ [])) 1 ≡ plain Done
+  one-admitted : r .exec ≤ shorter r → admitVerdict (tableBytes (r ∷ [])) 1 ≡ plain Done
   unfolding sumOf
   one-admitted h =
-      admit-exact (tableOf (r ∷ [])) 1 Done 0 (
+      admit-exact (tableBytes (r ∷ [])) 1 Done 0 (
         refl,
         (lit≤ tt, lit≤ tt),
         length-ok,
@@ -62,10 +59,10 @@ module _ (r : Row) (p : InRange (r .period)) (e : InRange (r .exec)) (d : InRang
       ok : RowsOk (r ∷ [])
       ok = elim [ zero ↦ λ _. ((p, e, d), h) | suc j ↦ λ hj. absurd (omega arith) ]
 
-  one-refused : shorter r < r .exec → admitVerdict (tableOf (r ∷ [])) 1 ≡ record { answer = RowExecution; row = 1 }
+  one-refused : shorter r < r .exec → admitVerdict (tableBytes (r ∷ [])) 1 ≡ record { answer = RowExecution; row = 1 }
   one-refused h =
       let z : 1 - 1 ≡ 0 = refl in
-      admit-exact (tableOf (r ∷ [])) 1 RowExecution 1
+      admit-exact (tableBytes (r ∷ [])) 1 RowExecution 1
       (lit≤ tt, rw rows-are (lit≤ tt), (lit≤ tt, lit≤ tt), length-ok, (λ j hj. absurd (omega arith)), rw rows-are (p, e, d), rw rows-are h)
 
 pub figures : Figures

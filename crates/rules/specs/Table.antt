@@ -1,11 +1,11 @@
 -- THE TABLE
 use mathlib.Core.Bool.{Bool, _&&_}
-use mathlib.Core.List.{List, map}
+use mathlib.Core.List.{List, [], _∷_, _++_, map}
 use Prim.Native.Nat.{ℕ, _+_, _*_, _/_, min}
 use lib.Dec.{leb}
 use lib.ListN.{length, take, drop}
 use Rattle.ground.specs.Sums.{upFrom}
-use Rattle.ground.specs.Bytes.{number}
+use Rattle.ground.specs.Bytes.{le, number}
 
 -- period p, execution e, relative deadline D, in ticks
 pub record Row : Type 0 where
@@ -23,6 +23,14 @@ rowAt bytes i = record { period = wordAt (12 * i) bytes; exec = wordAt (12 * i +
 -- "A table is rows of 12 bytes", numbered in row order
 unfoldable pub rowsOf : List ℕ → List Row
 rowsOf bytes = map (rowAt bytes) (upFrom 0 (length bytes / 12))
+
+-- the bytes of rows
+abbrev pub rowBytes : Row → List ℕ
+rowBytes r = le 4 r.period ++ le 4 r.exec ++ le 4 r.deadline
+
+unfoldable pub tableBytes : List Row → List ℕ
+tableBytes [] = []
+tableBytes (r ∷ rs) = rowBytes r ++ tableBytes rs
 
 -- "Write q for the shorter of p and D."
 abbrev pub shorter : Row → ℕ

@@ -9,10 +9,10 @@ use borrow.Author.Tests.{lt-ltb, le-ltb}
 use lib.Dec.{ltb}
 use lib.ListN.{length, set, take, drop, length-append}
 use lib.Seq.{take-set-le, drop-cons, drop-set-lt, getD-set-same, append-snoc, set-split, lt-length-set}
+use Rattle.ground.specs.Bytes.{pasted}
 use Rattle.ground.specs.Tests.{if_then_else_, Says}
 use Rattle.ground.proofs.Tests.{ltb-says}
 use Rattle.text.specs.Numbers.{digits}
-use Rattle.text.specs.Output.{pasted}
 
 -- f digits are enough for y
 abbrev pub Enough : ℕ → ℕ → Type 0

@@ -1,17 +1,16 @@
 -- Laws of the output lines
-use Prim.Native.Nat.{ℕ, zero, suc, _+_, _*_, _^_, _≤_, _<_}
+use Prim.Native.Nat.{ℕ, zero, suc, _+_, _*_, _≤_, _<_}
 use mathlib.Core.Path.{_≡_, refl, sym, ap, subst, _∙_}
 use mathlib.Core.List.{List, [], _∷_, _++_, append-assoc, append-nil}
-use native.Mathlib.Nat.{pow-suc, pow-zero}
 use native.Mathlib.Omega.{arith}
-use lib.ListN.{length, getD, set, take, drop, length-append, length-drop}
-use lib.Seq.{sets, drop-cons, drop-drop, take-add, take-suc, length-take-le}
-use Rattle.ground.specs.Bytes.{number}
+use lib.ListN.{length, getD, set, take, drop, length-append}
+use lib.Seq.{sets, drop-cons, drop-drop, take-suc, length-take-le}
+use Rattle.ground.specs.Bytes.{number, pasted}
+use Rattle.ground.proofs.Bytes.{paste-then, paste-none, length-pasted}
 use Rattle.rules.specs.Record.{slotsFrom, readRecord}
 use Rattle.text.specs.Parts.{newline, space}
 use Rattle.text.specs.Numbers.{decimalOf}
-use Rattle.text.specs.Output.{pasted, Put, Counts, scaleWord, scaleLine, refusedWord, refusedLine, spaced, recordLine, recordLines}
-use Rattle.text.proofs.Pastes.{paste-then, paste-none, length-pasted}
+use Rattle.text.specs.Output.{Put, Counts, scaleWord, scaleLine, refusedWord, refusedLine, spaced, recordLine, recordLines}
 use Rattle.text.proofs.Decimals.{digits-most, digits-few}
 
 -- one after the other
@@ -31,30 +30,6 @@ pub put-counts : (l l₁ v : List ℕ) (n : ℕ) → length v ≤ length l → P
 put-counts l l₁ v n h p =
     let e : length l₁ ≡ length l = ap length (p .0) ∙ length-pasted l 0 v (omega arith) in
     counted l₁ n (omega (arith, p .1))
-
--- a number's bytes: two, and one half after the other
-pub number-two : (r : List ℕ) (at : ℕ) → at + 2 ≤ length r → number (take 2 (drop at r)) ≡ getD r at 0 + 256 * getD r (at + 1) 0
-unfolding number
-number-two r at h =
-    let e : suc at ≡ at + 1 = omega arith in
-    let d : drop at r ≡ getD r at 0 ∷ getD r (at + 1) 0 ∷ drop (suc (at + 1)) r =
-    drop-cons r at 0 (omega arith) ∙ ap (λ (n : ℕ). getD r at 0 ∷ drop n r) e ∙ ap (λ (l : List ℕ). getD r at 0 ∷ l) (drop-cons r (at + 1) 0 (omega arith)) in
-    ap (λ (l : List ℕ). number (take 2 l)) d ∙ omega arith
-
-pub number-append : (a b : List ℕ) → number (a ++ b) ≡ number a + 256 ^ length a * number b
-unfolding number
-number-append [] b = omega (arith, ap (λ (n : ℕ). n * number b) (pow-zero 256))
-number-append (x ∷ a) b =
-    let e : 256 ^ suc (length a) * number b ≡ 256 * (256 ^ length a * number b) = omega (arith, ap (λ (n : ℕ). n * number b) (pow-suc 256 (length a))) in
-    omega (arith, ap (λ (n : ℕ). 256 * n) (number-append a b))
-
-pub number-halves : (r : List ℕ) (at n k : ℕ) → at + n ≤ length r → number (take (n + k) (drop at r)) ≡ number (take n (drop at r)) + 256 ^ n * number (take k (drop (at + n) r))
-number-halves r at n k h =
-    let m : length (take n (drop at r)) ≡ n = length-take-le n (drop at r) (omega (arith, length-drop at r)) in
-    ap number (take-add n k (drop at r))
-    ∙ number-append (take n (drop at r)) (take k (drop n (drop at r)))
-    ∙ ap (λ (j : ℕ). number (take n (drop at r)) + 256 ^ j * number (take k (drop n (drop at r)))) m
-    ∙ ap (λ (l : List ℕ). number (take n (drop at r)) + 256 ^ n * number (take k l)) (drop-drop n at r)
 
 -- the slots
 pub length-slots : (n : ℕ) (b : List ℕ) → length (slotsFrom n b) ≡ n

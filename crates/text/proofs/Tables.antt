@@ -13,70 +13,15 @@ use Rattle.ground.specs.Bytes.{le, number}
 use Rattle.ground.specs.Sums.{upFrom}
 use Rattle.ground.proofs.Tests.{leb-says, of-true}
 use Rattle.ground.proofs.Bytes.{length-le, number-le}
-use Rattle.rules.specs.Table.{Row, wordAt, rowAt, rowsOf}
+use Rattle.rules.specs.Table.{Row, rowsOf, tableBytes}
+use Rattle.rules.proofs.Reading.{RowFits, RowsFit, length-table, table-rows}
 use Rattle.text.specs.declared.Numeral.{Numeral}
 use Rattle.text.specs.declared.Numeral.the-variants.{Value, Nothing}
 use Rattle.text.specs.declared.Item.the-variants.{Processors, Task, Arrive, Until, Other}
 use Rattle.text.specs.Parts.{same, linesOf, partsOf}
 use Rattle.text.specs.Numbers.{isDigit, plain, spelled, numeralOf}
 use Rattle.text.specs.Lines.{processorsWord, taskWord, arriveWord, untilWord, withOne, withTwo, withThree, ofParts, itemOf}
-use Rattle.text.specs.Meaning.{itemsOf, rowBy, rowsIn, rowBytes, tableBytes, tableOf}
-use Rattle.text.proofs.Pastes.{length-row, length-table}
-
--- every number of a row fits 32 bits
-abbrev pub RowFits : Row → Type 0
-RowFits r = (r .period ≤ 4294967295) × (r .exec ≤ 4294967295) × (r .deadline ≤ 4294967295)
-
-abbrev pub RowsFit : List Row → Type 0
-RowsFit [] = Unit {0}
-RowsFit (r ∷ rs) = RowFits r × RowsFit rs
-
--- a word of four bytes in front, and the rest
-word-front : (x : ℕ) (l : List ℕ) → x ≤ 4294967295 → number (take 4 (le 4 x ++ l)) ≡ x
-word-front x l h = ap number (take-at (le 4 x) l 4 (length-le 4 x)) ∙ number-le 4 x (omega arith)
-
--- the row that stands after `before`
-row-at : (before rest : List ℕ) (i : ℕ) (r : Row) → length before ≡ 12 * i → RowFits r → rowAt (before ++ (rowBytes r ++ rest)) i ≡ r
-row-at before rest i r e f =
-    let p = le 4 (r .period) in
-    let x = le 4 (r .exec) in
-    let d = le 4 (r .deadline) in
-    let all = before ++ (rowBytes r ++ rest) in
-    let a1 : rowBytes r ++ rest ≡ p ++ (x ++ (d ++ rest)) = append-assoc (p ++ x) d rest ∙ append-assoc p x (d ++ rest) in
-    let from : (n : ℕ) → drop (12 * i + n) all ≡ drop n (p ++ (x ++ (d ++ rest))) =
-    λ n. ap (λ (k : ℕ). drop (k + n) all) (sym e) ∙ drop-append-add before (rowBytes r ++ rest) n ∙ ap (drop n) a1 in
-    let w0 : wordAt (12 * i) all ≡ r .period =
-    ap (λ (k : ℕ). number (take 4 (drop k all))) (let z : 12 * i ≡ 12 * i + 0 = omega arith in z)
-    ∙ ap (λ (l : List ℕ). number (take 4 l)) (from 0)
-    ∙ word-front (r .period) (x ++ (d ++ rest)) (f .0) in
-    let w1 : wordAt (12 * i + 4) all ≡ r .exec =
-    ap (λ (l : List ℕ). number (take 4 l)) (from 4 ∙ drop-at p (x ++ (d ++ rest)) 4 (length-le 4 (r .period))) ∙ word-front (r .exec) (d ++ rest) (f .1) in
-    let px : length (p ++ x) ≡ 8 = omega (arith, length-append p x, length-le 4 (r .period), length-le 4 (r .exec)) in
-    let w2 : wordAt (12 * i + 8) all ≡ r .deadline =
-    ap (λ (l : List ℕ). number (take 4 l)) (from 8 ∙ ap (drop 8) (sym (append-assoc p x (d ++ rest))) ∙ drop-at (p ++ x) (d ++ rest) 8 px)
-    ∙ word-front (r .deadline) rest (f .2) in
-    let made : ℕ → ℕ → ℕ → Row = λ a b c. record { period = a; exec = b; deadline = c } in
-    ap (λ (a : ℕ). made a (wordAt (12 * i + 4) all) (wordAt (12 * i + 8) all)) w0
-    ∙ ap (λ (b : ℕ). made (r .period) b (wordAt (12 * i + 8) all)) w1
-    ∙ ap (λ (c : ℕ). made (r .period) (r .exec) c) w2
-
-rows-from : (before : List ℕ) (i : ℕ) (rs : List Row) → length before ≡ 12 * i → RowsFit rs → map (rowAt (before ++ tableBytes rs)) (upFrom i (length rs)) ≡ rs
-unfolding tableBytes upFrom
-rows-from before i [] e f = refl
-rows-from before i (r ∷ rs) e f =
-    let n : length (before ++ rowBytes r) ≡ 12 * suc i = omega (arith, length-append before (rowBytes r), length-row r) in
-    let rest = rows-from (before ++ rowBytes r) (suc i) rs n (f .1) in
-    ap (λ (x : Row). x ∷ map (rowAt (before ++ (rowBytes r ++ tableBytes rs))) (upFrom (suc i) (length rs))) (row-at before (tableBytes rs) i r e (f .0))
-    ∙ ap (λ (l : List ℕ). r ∷ map (rowAt l) (upFrom (suc i) (length rs))) (sym (append-assoc before (rowBytes r) (tableBytes rs)))
-    ∙ ap (λ (l : List Row). r ∷ l) rest
-
--- the rows of a table's bytes
-pub table-rows : (rs : List Row) → RowsFit rs → rowsOf (tableBytes rs) ≡ rs
-unfolding rowsOf
-table-rows rs f =
-    let pos : 0 < 12 = omega arith in
-    let n : length (tableBytes rs) / 12 ≡ length rs = ap (λ (k : ℕ). k / 12) (length-table rs) ∙ mul-div-cancel-left (length rs) pos in
-    ap (λ (k : ℕ). map (rowAt (tableBytes rs)) (upFrom 0 k)) n ∙ rows-from [] 0 rs refl f
+use Rattle.text.specs.Meaning.{itemsOf, rowBy, rowsIn, tableOf}
 
 -- each number of a text fits 32 bits
 abbrev NumeralFits : Numeral → Type 0

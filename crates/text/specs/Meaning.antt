@@ -6,7 +6,7 @@ use lib.Dec.{ltb}
 use lib.ListN.{length, getD, take, drop}
 use Rattle.ground.specs.Tests.{if_then_else_}
 use Rattle.ground.specs.Bytes.{le}
-use Rattle.rules.specs.Table.{Row}
+use Rattle.rules.specs.Table.{Row, tableBytes}
 use Rattle.text.specs.declared.Item.{Item}
 use Rattle.text.specs.declared.Item.the-variants.{Processors, Task, Arrive, Until, Other}
 use Rattle.text.specs.declared.Line.{Line}
@@ -91,14 +91,6 @@ turnBy n Other = []
 unfoldable pub turnsIn : ℕ → List Item → List Turn
 turnsIn n [] = []
 turnsIn n (x ∷ l) = turnBy n x ++ turnsIn (n + 1) l
-
--- "period p, execution e, relative deadline D, each 32 bits, least byte first"
-abbrev pub rowBytes : Row → List ℕ
-rowBytes r = le 4 r.period ++ le 4 r.exec ++ le 4 r.deadline
-
-unfoldable pub tableBytes : List Row → List ℕ
-tableBytes [] = []
-tableBytes (r ∷ rs) = rowBytes r ++ tableBytes rs
 
 -- the table of a text; of more than 129 rows the first 129, which are too many as well
 unfoldable pub tableOf : List ℕ → List ℕ

@@ -3,15 +3,11 @@ use mathlib.Core.List.{List, [], _∷_, _++_}
 use mathlib.Core.Path.{_≡_}
 use Prim.Native.Nat.{ℕ, zero, suc, _+_, _*_, _-_, _≤_}
 use lib.ListN.{length, take, drop}
-use Rattle.rules.specs.Table.{Row}
+use Rattle.ground.specs.Bytes.{pasted}
+use Rattle.rules.specs.Table.{Row, tableBytes}
 use Rattle.rules.specs.Record.{Record, readRecord}
 use Rattle.text.specs.Parts.{newline, space}
 use Rattle.text.specs.Numbers.{decimalOf}
-use Rattle.text.specs.Meaning.{tableBytes}
-
--- l with v from place at on, all else as it was
-abbrev pub pasted : List ℕ → ℕ → List ℕ → List ℕ
-pasted l at v = take at l ++ v ++ drop (at + length v) l
 
 -- v was put at a place: what the list is then, and the next place
 abbrev pub Put : List ℕ → ℕ → List ℕ → List ℕ → ℕ → Type 0

@@ -8,10 +8,10 @@ ghost use Rattle.text.specs.Numbers.{isDigit, plain, numeralOf, decimalO
 ghost use Rattle.text.specs.Lines.{withOne, withTwo, withThree, itemOf};
 ghost use Rattle.text.specs.Form.{mayStand, stageAfter, formFrom, formOf};
 ghost use mathlib.Core.List.{[], _∷_, _++_};
-ghost use Rattle.ground.specs.Bytes.{le, number};
+ghost use Rattle.ground.specs.Bytes.{le, pasted};
 ghost use Rattle.rules.specs.Record.{slotsFrom, readRecord};
 ghost use Rattle.text.specs.Meaning.{itemsOf, lineAt, processorsIn, isTask, rowLineOf, rowBy, tableOf};
-ghost use Rattle.text.specs.Output.{pasted, Put, Counts, RowsPut, scaleLine, refusedLine, spaced, recordLine, recordLines};
+ghost use Rattle.text.specs.Output.{Put, Counts, RowsPut, scaleLine, refusedLine, spaced, recordLine, recordLines};
 
 // What a part is: a number, or none.
 pub enum Numeral {
@@ -356,28 +356,14 @@ pub fn row_line(s: &[u8], row: u64) -> u64
     0
 }
 
-// A number's four least bytes, least byte first.
-fn put32(out: &mut [u8], at: usize, x: u64)
-    requires room { ⌜ at + 4 ≤ length (now out) ⌝ }
-    ensures is { λ _. ⌜ now (out .exit) ≡ pasted (now (out .entry)) at (le 4 x) ⌝ }
-{
-    let mut i: usize = 0;
-    let mut y = x;
-    while i < 4 {
-        out[at + i] = (y % 256) as u8;
-        y = y / 256;
-        i += 1;
-    }
-}
-
 // A row's twelve bytes.
 fn put_row(out: &mut [u8], at: usize, p: u64, e: u64, d: u64)
     requires room { ⌜ at + 12 ≤ length (now out) ⌝ }
     ensures is { λ _. ⌜ now (out .exit) ≡ pasted (now (out .entry)) at (le 4 p ++ le 4 e ++ le 4 d) ⌝ }
 {
-    put32(out, at, p);
-    put32(out, at + 4, e);
-    put32(out, at + 8, d);
+    ground::put(out, at, p, 4);
+    ground::put(out, at + 4, e, 4);
+    ground::put(out, at + 8, d, 4);
 }
 
 // The row of a task line, after k rows, as long as there are fewer than 129; the number of rows then.
@@ -515,43 +501,6 @@ pub fn put_refused(out: &mut [u8], number: u64, line: u64) -> usize
     put_byte(out, c, 10)
 }
 
-// A byte as a number of 64 bits.
-fn wide(b: u8) -> u64
-    ensures is { λ r. ⌜ (r ≡ b) × (r < 256) ⌝ }
-{
-    b as u64
-}
-
-// The number that two bytes spell.
-fn read16(room: &[u8], at: usize) -> u64
-    requires within { ⌜ at + 2 ≤ length (now room) ⌝ }
-    ensures is { λ r. ⌜ (r ≡ number (take 2 (drop at (now (room .entry))))) × (r < 65536) ⌝ }
-{
-    let a = wide(room[at]);
-    let b = wide(room[at + 1]);
-    a + 256 * b
-}
-
-// The number that four bytes spell.
-fn read32(room: &[u8], at: usize) -> u64
-    requires within { ⌜ at + 4 ≤ length (now room) ⌝ }
-    ensures is { λ r. ⌜ (r ≡ number (take 4 (drop at (now (room .entry))))) × (r < 4294967296) ⌝ }
-{
-    let a = read16(room, at);
-    let b = read16(room, at + 2);
-    a + 65536 * b
-}
-
-// The number that eight bytes spell.
-fn read64(room: &[u8], at: usize) -> u64
-    requires within { ⌜ at + 8 ≤ length (now room) ⌝ }
-    ensures is { λ r. ⌜ r ≡ number (take 8 (drop at (now (room .entry)))) ⌝ }
-{
-    let a = read32(room, at);
-    let b = read32(room, at + 4);
-    a + 4294967296 * b
-}
-
 // The first m slots from place `from` of the room, each after a space; the next place.
 fn put_slots(out: &mut [u8], at: usize, room: &[u8], from: usize, m: usize) -> usize
     requires room { ⌜ (m ≤ 16) × (from + 32 ≤ length (now room)) × (at + 6 * m ≤ length (now out)) ⌝ }
@@ -560,7 +509,7 @@ fn put_slots(out: &mut [u8], at: usize, room: &[u8], from: usize, m: usize) -> u
     let mut next = at;
     let mut k: usize = 0;
     while k < m {
-        let x = read16(room, from + 2 * k);
+        let x = ground::get(room, from + 2 * k, 2);
         next = put_spaced(out, next, x);
         k += 1;
     }
@@ -572,8 +521,8 @@ fn put_line(out: &mut [u8], at: usize, room: &[u8], place: usize, m: usize) -> u
     requires room { ⌜ (m ≤ 16) × (place + 48 ≤ length (now room)) × (at + 138 ≤ length (now out)) ⌝ }
     ensures is { λ r. ⌜ Put (now (out .entry)) at (recordLine m (readRecord (drop place (now (room .entry))))) (now (out .exit)) r × (r ≤ at + 138) ⌝ }
 {
-    let from = read64(room, place);
-    let to = read64(room, place + 8);
+    let from = ground::get(room, place, 8);
+    let to = ground::get(room, place + 8, 8);
     let a = put_decimal(out, at, from);
     let b = put_spaced(out, a, to);
     let c = put_slots(out, b, room, place + 16, m);

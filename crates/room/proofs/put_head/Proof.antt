@@ -1,13 +1,11 @@
-use mathlib.Core.Path.{_≡_, ap, _∙_}
+use mathlib.Core.Path.{ap, _∙_}
 use mathlib.Core.List.{List}
 use Prim.Native.Nat.{ℕ}
 use native.Mathlib.Omega.{arith}
 use borrow.Author.Needs.{needs}
 use denote.Ref.{now}
-use Rattle.ground.specs.Bytes.{le}
-use Rattle.room.specs.Pasted.{pasted}
-use Rattle.room.proofs.Pastes.{grown}
-use Rattle.ground.proofs.Bytes.{length-le}
+use Rattle.ground.specs.Bytes.{le, pasted}
+use Rattle.ground.proofs.Bytes.{length-le, grown}
 use Rattle.room.proofs.put_head.Statement.{statement}
 use Rattle.room.proofs.put_head.Tie as tie
 
@@ -15,8 +13,8 @@ returns : tie.Need-returns
 unfolding le
 returns c =
     let s = c .before .before .before .before .before .before .before .before .before in
-    c .before .before .put642 .ensures
-    ∙ ap (λ (l : List ℕ). pasted l 8 (le 8 (s .args .to))) (c .before .before .before .before .before .before .put64 .ensures)
+    c .before .before .put2 .ensures
+    ∙ ap (λ (l : List ℕ). pasted l 8 (le 8 (s .args .to))) (c .before .before .before .before .before .before .put .ensures)
     ∙ grown (le 8 (s .args .from)) (le 8 (s .args .to)) (now (s .args .room)) 8 (length-le 8 (s .args .from)) (omega (arith, s .pre))
 
 pub put-head-spec : {M : Type 1} → statement M

@@ -6,11 +6,10 @@ use lib.ListN.{length, take, drop, getD, length-append, take-append-drop}
 use lib.Seq.{take-all, length-take-le}
 use borrow.Author.Needs.{needs}
 use denote.Ref.{now}
-use Rattle.ground.specs.Bytes.{le}
+use Rattle.ground.specs.Bytes.{le, pasted}
 use Rattle.rules.specs.Record.{slotBytes}
-use Rattle.room.specs.Pasted.{pasted}
-use Rattle.room.proofs.Pastes.{grown, length-slots, slots-more}
-use Rattle.ground.proofs.Bytes.{length-le}
+use Rattle.ground.proofs.Bytes.{length-le, grown}
+use Rattle.room.proofs.Slots.{length-slots, slots-more}
 use Rattle.room.proofs.put_slots.Statement.{statement}
 use Rattle.room.proofs.put_slots.Tie as tie
 
@@ -42,13 +41,16 @@ loop-holds c =
 
 loop-again : tie.Need-loop-again Inv-loop μ-loop
 loop-again c =
-    let k = c .before .before .before .before .before .before .loop in
-    let known = c .before .before .before .before .before .before .before in
+    let slot = c .before .before .before in
+    let k = slot .before .before .before .before .loop in
+    let known = slot .before .before .before .before .before in
     let s = known .before .before in
     let n : length (now (s .args .slots)) ≡ 16 = known .measure .ensures in (
       omega arith,
-      c .before .before .put16 .kept .0 ∙ k .inv .1,
-      c .before .before .put16 .ensures ∙ more (k .room) (s .args .room .now) (now (s .args .slots)) (k .k) n (omega (arith, s .pre)) (omega arith) (k .inv .2),
+      c .before .before .put .kept .0 ∙ k .inv .1,
+      c .before .before .put .ensures
+          ∙ ap (λ (x : ℕ). pasted (k .room) (16 + 2 * k .k) (le 2 x)) (slot .wide .ensures)
+          ∙ more (k .room) (s .args .room .now) (now (s .args .slots)) (k .k) n (omega (arith, s .pre)) (omega arith) (k .inv .2),
     )
 
 returns : tie.Need-returns Inv-loop μ-loop
@@ -75,6 +77,7 @@ put-slots-spec =
     (λ c. search needs)
     (λ c. search needs)
     (λ c. search needs)
+    (λ c κs. search needs)
     (λ c κs. search needs)
     (λ c. search needs)
     (λ c. search needs)

@@ -6,7 +6,7 @@ use lib.Seq.{sets}
 use lib.ListN.{length, drop, length-set, drop-of-length-le}
 use borrow.Author.Needs.{needs}
 use Rattle.text.proofs.Records.{word-turn}
-use Rattle.text.proofs.Pastes.{stored}
+use Rattle.ground.proofs.Bytes.{stored}
 use Rattle.text.proofs.put_bytes.Statement.{statement}
 use Rattle.text.proofs.put_bytes.Tie as tie
 

@@ -4,10 +4,10 @@ use mathlib.Core.Path.{_≡_, refl, sym, ap, _∙_}
 use native.Mathlib.Omega.{arith}
 use lib.ListN.{length, length-set}
 use borrow.Author.Needs.{needs}
-use Rattle.text.specs.Output.{pasted}
+use Rattle.ground.specs.Bytes.{pasted}
+use Rattle.ground.proofs.Bytes.{paste-none}
 use Rattle.text.specs.Numbers.{decimalOf}
 use Rattle.text.proofs.Decimals.{low, digits-low, low-turn, low-none}
-use Rattle.text.proofs.Pastes.{paste-none}
 use Rattle.text.proofs.put_decimal.Statement.{statement}
 use Rattle.text.proofs.put_decimal.Tie as tie
 

@@ -13,20 +13,20 @@ use Rattle.text.proofs.Records.{put-then, put-as, decimal-most, record-
 use Rattle.text.proofs.put_line.Statement.{statement}
 use Rattle.text.proofs.put_line.Tie as tie
 
-read64-requires : tie.Need-read64-requires
-read64-requires c κs = search needs
+get-requires : tie.Need-get-requires
+get-requires c κs = search needs
 
-add-read64 : tie.Need-add-read64
-add-read64 c = search needs
+add-get : tie.Need-add-get
+add-get c = search needs
 
-read64-requires-2 : tie.Need-read64-requires-2
-read64-requires-2 c κs = search needs
+get-requires-2 : tie.Need-get-requires-2
+get-requires-2 c κs = search needs
 
 put-decimal-requires : tie.Need-put-decimal-requires
-put-decimal-requires c κs = omega (arith, decimal-most (c .before .before .read64 .result), c .before .before .before .before .before .pre .2)
+put-decimal-requires c κs = omega (arith, decimal-most (c .before .before .get .result), c .before .before .before .before .before .pre .2)
 
 put-spaced-requires : tie.Need-put-spaced-requires
-put-spaced-requires c κs = omega (arith, c .before .before .before .put-decimal .ensures .1, c .before .before .before .put-decimal .kept .0, decimal-most (c .before .before .before .before .before .before .read64 .result), decimal-most (c .before .before .before .before .before .read642 .result), c .before .before .before .before .before .before .before .before .before .pre .2)
+put-spaced-requires c κs = omega (arith, c .before .before .before .put-decimal .ensures .1, c .before .before .before .put-decimal .kept .0, decimal-most (c .before .before .before .before .before .before .get .result), decimal-most (c .before .before .before .before .before .get2 .result), c .before .before .before .before .before .before .before .before .before .pre .2)
 
 add-put-slots : tie.Need-add-put-slots
 add-put-slots c = search needs
@@ -34,10 +34,10 @@ add-put-slots c = search needs
 put-slots-requires : tie.Need-put-slots-requires
 put-slots-requires c κs =
     let p = c .before .before .before .before .before .before .before .before .before .before .before .before .before .pre in
-    (p .0, omega arith, omega (arith, c .before .before .before .put-spaced .ensures .1, c .before .before .before .put-spaced .kept .0, c .before .before .before .before .before .before .before .put-decimal .ensures .1, c .before .before .before .before .before .before .before .put-decimal .kept .0, decimal-most (c .before .before .before .before .before .before .before .before .before .before .read64 .result), decimal-most (c .before .before .before .before .before .before .before .before .before .read642 .result)))
+    (p .0, omega arith, omega (arith, c .before .before .before .put-spaced .ensures .1, c .before .before .before .put-spaced .kept .0, c .before .before .before .before .before .before .before .put-decimal .ensures .1, c .before .before .before .before .before .before .before .put-decimal .kept .0, decimal-most (c .before .before .before .before .before .before .before .before .before .before .get .result), decimal-most (c .before .before .before .before .before .before .before .before .before .get2 .result)))
 
 put-byte-requires : tie.Need-put-byte-requires
-put-byte-requires c κs = omega (arith, c .before .before .before .put-slots .ensures .1, c .before .before .before .put-slots .kept .0, c .before .before .before .before .before .before .before .put-spaced .ensures .1, c .before .before .before .before .before .before .before .put-spaced .kept .0, c .before .before .before .before .before .before .before .before .before .before .before .put-decimal .ensures .1, c .before .before .before .before .before .before .before .before .before .before .before .put-decimal .kept .0, decimal-most (c .before .before .before .before .before .before .before .before .before .before .before .before .before .before .read64 .result), decimal-most (c .before .before .before .before .before .before .before .before .before .before .before .before .before .read642 .result), c .before .before .before .before .before .before .before .before .before .before .before .before .before .before .before .before .before .pre)
+put-byte-requires c κs = omega (arith, c .before .before .before .put-slots .ensures .1, c .before .before .before .put-slots .kept .0, c .before .before .before .before .before .before .before .put-spaced .ensures .1, c .before .before .before .before .before .before .before .put-spaced .kept .0, c .before .before .before .before .before .before .before .before .before .before .before .put-decimal .ensures .1, c .before .before .before .before .before .before .before .before .before .before .before .put-decimal .kept .0, decimal-most (c .before .before .before .before .before .before .before .before .before .before .before .before .before .before .get .result), decimal-most (c .before .before .before .before .before .before .before .before .before .before .before .before .before .get2 .result), c .before .before .before .before .before .before .before .before .before .before .before .before .before .before .before .before .before .pre)
 
 same-length : tie.Need-same-length
 same-length c = c .before .before .put-byte .kept .0 ∙ c .before .before .before .before .before .before .put-slots .kept .0 ∙ c .before .before .before .before .before .before .before .before .before .before .put-spaced .kept .0 ∙ c .before .before .before .before .before .before .before .before .before .before .before .before .before .before .put-decimal .kept .0
@@ -47,8 +47,8 @@ returns c =
     let a = c .before .before .before .before .before .before .before .before .before .before .before .before .before .before .before .before .before .before .before .before .args in
     let l = a .out .now in
     let r = a .room .now in
-    let x = c .before .before .before .before .before .before .before .before .before .before .before .before .before .before .before .before .before .read64 .result in
-    let y = c .before .before .before .before .before .before .before .before .before .before .before .before .before .before .before .before .read642 .result in
+    let x = c .before .before .before .before .before .before .before .before .before .before .before .before .before .before .before .before .before .get .result in
+    let y = c .before .before .before .before .before .before .before .before .before .before .before .before .before .before .before .before .get2 .result in
     let d = decimalOf x in
     let e = space ∷ decimalOf y in
     let s = spaced (take (a .m) (slotsFrom 16 (drop (a .place + 16) r))) in
@@ -65,8 +65,8 @@ returns c =
     let q = put-then l (c .before .before .before .before .before .before .before .before .before .before .put-spaced .last .0) (c .before .before .before .before .before .before .put-slots .last .0) (a .at) (c .before .before .before .before .before .before .before .before .before .before .put-spaced .result) (c .before .before .before .before .before .before .put-slots .result) (d ++ e) s (omega arith) p (f3 .0) in
     let t = put-then l (c .before .before .before .before .before .before .put-slots .last .0) (c .before .before .put-byte .last .0) (a .at) (c .before .before .before .before .before .before .put-slots .result) (c .before .before .put-byte .result) (d ++ e ++ s) (newline ∷ []) (omega arith) q f4 in
     let g =
-    ap (λ (z : ℕ). decimalOf z ++ e ++ s ++ (newline ∷ [])) (c .before .before .before .before .before .before .before .before .before .before .before .before .before .before .before .before .before .read64 .ensures)
-    ∙ ap (λ (z : ℕ). decimalOf (number (take 8 (drop (a .place) r))) ++ (space ∷ decimalOf z) ++ s ++ (newline ∷ [])) (c .before .before .before .before .before .before .before .before .before .before .before .before .before .before .before .before .read642 .ensures)
+    ap (λ (z : ℕ). decimalOf z ++ e ++ s ++ (newline ∷ [])) (c .before .before .before .before .before .before .before .before .before .before .before .before .before .before .before .before .before .get .ensures .0)
+    ∙ ap (λ (z : ℕ). decimalOf (number (take 8 (drop (a .place) r))) ++ (space ∷ decimalOf z) ++ s ++ (newline ∷ [])) (c .before .before .before .before .before .before .before .before .before .before .before .before .before .before .before .before .get2 .ensures .0)
     ∙ record-line (a .m) (a .place) r in
     (put-as l (c .before .before .put-byte .last .0) (a .at) (c .before .before .put-byte .result) _ _ g t, omega arith)
 
@@ -74,9 +74,9 @@ pub put-line-spec : {M : Type 1} → statement M
 put-line-spec =
     tie.close
     (tie.spec
-    read64-requires
-    add-read64
-    read64-requires-2
+    get-requires
+    add-get
+    get-requires-2
     put-decimal-requires
     put-spaced-requires
     add-put-slots

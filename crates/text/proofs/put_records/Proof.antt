@@ -3,7 +3,8 @@ use mathlib.Core.Path.{_≡_, refl, sym, _∙_}
 use native.Mathlib.Omega.{arith}
 use lib.ListN.{length, drop}
 use borrow.Author.Needs.{needs}
-use Rattle.text.specs.Output.{pasted, recordLines}
+use Rattle.ground.specs.Bytes.{pasted}
+use Rattle.text.specs.Output.{recordLines}
 use Rattle.text.proofs.Records.{records-turn, records-none, counted}
 use Rattle.text.proofs.put_records.Statement.{statement}
 use Rattle.text.proofs.put_records.Tie as tie

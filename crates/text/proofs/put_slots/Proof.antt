@@ -6,12 +6,12 @@ use lib.Seq.{drop-drop}
 use lib.ListN.{length, take, drop, getD}
 use borrow.Author.Needs.{needs}
 use Rattle.ground.specs.Bytes.{number}
+use Rattle.ground.proofs.Bytes.{paste-none}
 use Rattle.rules.specs.Record.{slotsFrom}
 use Rattle.text.specs.Output.{Put, spaced}
 use Rattle.text.specs.Numbers.{decimalOf}
 use Rattle.text.specs.Parts.{space}
 use Rattle.text.proofs.Records.{put-then, put-as, slot-at, length-slots, spaced-more, decimal-short}
-use Rattle.text.proofs.Pastes.{paste-none}
 use Rattle.text.proofs.put_slots.Statement.{statement}
 use Rattle.text.proofs.put_slots.Tie as tie
 
@@ -25,19 +25,19 @@ loop-holds : tie.Need-loop-holds Inv-loop μ-loop
 unfolding spaced
 loop-holds c = (omega arith, refl, omega arith, (sym (paste-none (c .before .before .args .out .now) (c .before .before .args .at)), omega arith))
 
-mul-read16 : tie.Need-mul-read16 Inv-loop μ-loop
-mul-read16 c = search needs
+mul-get : tie.Need-mul-get Inv-loop μ-loop
+mul-get c = search needs
 
-add-read16 : tie.Need-add-read16 Inv-loop μ-loop
-add-read16 c = search needs
+add-get : tie.Need-add-get Inv-loop μ-loop
+add-get c = search needs
 
-read16-requires : tie.Need-read16-requires Inv-loop μ-loop
-read16-requires c κs = search needs
+get-requires : tie.Need-get-requires Inv-loop μ-loop
+get-requires c κs = search needs
 
 put-spaced-requires : tie.Need-put-spaced-requires Inv-loop μ-loop
 put-spaced-requires c κs =
     let k = c .before .before .before .loop in
-    omega (arith, decimal-short (c .before .read16 .result) (c .before .read16 .ensures .1), k .inv .1, k .inv .2, c .before .before .before .before .before .before .pre .2)
+    omega (arith, decimal-short (c .before .get .result) (c .before .get .ensures .1), k .inv .1, k .inv .2, c .before .before .before .before .before .before .pre .2)
 
 add-k : tie.Need-add-k Inv-loop μ-loop
 add-k c = search needs
@@ -52,14 +52,14 @@ loop-again c =
     let r = a .room .now in
     let b = drop (a .from) r in
     let s = slotsFrom 16 b in
-    let x = c .before .before .before .before .read16 .result in
+    let x = c .before .before .before .before .get .result in
     let at : x ≡ getD s (k .k) 0 =
-    c .before .before .before .before .read16 .ensures .0 ∙ sym (slot-at 16 (k .k) b (omega arith) ∙ ap (λ (l : List ℕ). number (take 2 l)) (drop-drop (2 * k .k) (a .from) r)) in
+    c .before .before .before .before .get .ensures .0 ∙ sym (slot-at 16 (k .k) b (omega arith) ∙ ap (λ (l : List ℕ). number (take 2 l)) (drop-drop (2 * k .k) (a .from) r)) in
     let e = ap (λ (y : ℕ). spaced (take (k .k) s) ++ (space ∷ decimalOf y)) at ∙ spaced-more s (k .k) (omega (arith, length-slots 16 b)) in
     let p = put-then (a .out .now) (k .out) (c .before .before .put-spaced .last .0) (a .at) (k .next) (c .before .before .put-spaced .result) (spaced (take (k .k) s)) (space ∷ decimalOf x) (omega (arith, k .inv .3 .1, k .inv .2, c .before .before .before .before .before .before .before .before .before .pre .2)) (k .inv .3) (c .before .before .put-spaced .ensures) in (
       omega arith,
       c .before .before .put-spaced .kept .0 ∙ k .inv .1,
-      omega (arith, c .before .before .put-spaced .ensures .1, k .inv .2, decimal-short x (c .before .before .before .before .read16 .ensures .1)),
+      omega (arith, c .before .before .put-spaced .ensures .1, k .inv .2, decimal-short x (c .before .before .before .before .get .ensures .1)),
       put-as (a .out .now) (c .before .before .put-spaced .last .0) (a .at) (c .before .before .put-spaced .result) _ _ e p,
     )
 
@@ -80,9 +80,9 @@ put-slots-spec =
     Inv-loop
     μ-loop
     loop-holds
-    mul-read16
-    add-read16
-    read16-requires
+    mul-get
+    add-get
+    get-requires
     put-spaced-requires
     add-k
     loop-less

@@ -5,13 +5,14 @@ use native.Mathlib.Omega.{arith}
 use lib.Seq.{take-nil}
 use lib.ListN.{length, drop, take}
 use borrow.Author.Needs.{needs}
-use Rattle.rules.specs.Table.{Row}
-use Rattle.text.specs.Output.{pasted}
-use Rattle.text.specs.Meaning.{itemsOf, lineAt, rowBy, rowsIn, tableBytes, tableOf}
+use Rattle.ground.specs.Bytes.{pasted}
+use Rattle.ground.proofs.Bytes.{paste-none}
+use Rattle.rules.specs.Table.{Row, tableBytes}
+use Rattle.text.specs.Meaning.{itemsOf, lineAt, rowBy, rowsIn, tableOf}
 use Rattle.text.specs.declared.Line.{Line}
 use Rattle.text.proofs.Records.{counted}
 use Rattle.text.proofs.Walks.{next-later, next-within, rows-walk-by, rows-end}
-use Rattle.text.proofs.Pastes.{paste-none, rows-turn}
+use Rattle.text.proofs.Pastes.{rows-turn}
 use Rattle.text.proofs.table.Statement.{statement}
 use Rattle.text.proofs.table.Tie as tie
 

@@ -1,0 +1,4 @@
+pub mod Answers
+pub mod Again
+pub mod Exports
+pub mod Refusals
