@@ -23,22 +23,11 @@ fn wide(x: u16) -> u64
     x as u64
 }
 
-// An array taken as a slice: nothing is done, and the proofs learn its length.
-fn touch(_slots: &[u16]) {}
-
-// There are sixteen.
-fn measure(slots: &[u16; 16])
-    ensures is { λ _. ⌜ length (now (slots .entry)) ≡ 16 ⌝ }
-{
-    touch(slots);
-}
-
-// The sixteen slots.
-fn put_slots(room: &mut [u8], slots: &[u16; 16])
+// The sixteen slots, by value: the room cannot lie over them, so they are stored at once.
+fn put_slots(room: &mut [u8], slots: [u16; 16])
     requires fits { ⌜ 48 ≤ length (now room) ⌝ }
-    ensures is { λ _. ⌜ now (room .exit) ≡ take 16 (now (room .entry)) ++ slotBytes (now (slots .entry)) ++ drop 48 (now (room .entry)) ⌝ }
+    ensures is { λ _. ⌜ now (room .exit) ≡ take 16 (now (room .entry)) ++ slotBytes slots ++ drop 48 (now (room .entry)) ⌝ }
 {
-    measure(slots);
     let mut k: usize = 0;
     while k < 16 {
         ground::put(room, 16 + 2 * k, wide(slots[k]), 2);
@@ -52,5 +41,5 @@ pub fn write(room: &mut [u8], from: Instant, to: Instant, slots: &[u16; 16])
     ensures is { λ _. ⌜ now (room .exit) ≡ recordBytes (record { from = from .0; to = to .0; slots = now (slots .entry) }) ++ drop 48 (now (room .entry)) ⌝ }
 {
     put_head(room, from.0, to.0);
-    put_slots(room, slots);
+    put_slots(room, *slots);
 }

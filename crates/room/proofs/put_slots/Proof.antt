@@ -36,34 +36,32 @@ more r l s k hs hl hk e =
 loop-holds : tie.Need-loop-holds Inv-loop μ-loop
 unfolding slotBytes
 loop-holds c =
-    let r = c .before .before .args .room .now in
+    let r = c .before .args .room .now in
     (omega arith, refl, sym (ap (λ (x : List ℕ). x ++ drop 16 r) (append-nil (take 16 r)) ∙ take-append-drop 16 r))
 
 loop-again : tie.Need-loop-again Inv-loop μ-loop
 loop-again c =
     let slot = c .before .before .before in
-    let k = slot .before .before .before .before .loop in
-    let known = slot .before .before .before .before .before in
-    let s = known .before .before in
-    let n : length (now (s .args .slots)) ≡ 16 = known .measure .ensures in (
+    let k = slot .before .before .before .loop in
+    let s = slot .before .before .before .before .before in
+    let n : length (s .args .t2) ≡ 16 = search needs in (
       omega arith,
       c .before .before .put .kept .0 ∙ k .inv .1,
       c .before .before .put .ensures
           ∙ ap (λ (x : ℕ). pasted (k .room) (16 + 2 * k .k) (le 2 x)) (slot .wide .ensures)
-          ∙ more (k .room) (s .args .room .now) (now (s .args .slots)) (k .k) n (omega (arith, s .pre)) (omega arith) (k .inv .2),
+          ∙ more (k .room) (s .args .room .now) (s .args .t2) (k .k) n (omega (arith, s .pre)) (omega arith) (k .inv .2),
     )
 
 returns : tie.Need-returns Inv-loop μ-loop
 returns c =
     let k = c .before .loop in
-    let known = c .before .before in
-    let s = known .before .before in
-    let n : length (now (s .args .slots)) ≡ 16 = known .measure .ensures in
+    let s = c .before .before .before in
+    let n : length (s .args .t2) ≡ 16 = search needs in
     let e : k .k ≡ 16 = omega arith in
     let r = now (s .args .room) in
     k .inv .2
-    ∙ ap (λ (m : ℕ). take 16 r ++ slotBytes (take m (now (s .args .slots))) ++ drop (16 + 2 * m) r) e
-    ∙ ap (λ (x : List ℕ). take 16 r ++ slotBytes x ++ drop 48 r) (take-all 16 (now (s .args .slots)) (omega arith))
+    ∙ ap (λ (m : ℕ). take 16 r ++ slotBytes (take m (s .args .t2)) ++ drop (16 + 2 * m) r) e
+    ∙ ap (λ (x : List ℕ). take 16 r ++ slotBytes x ++ drop 48 r) (take-all 16 (s .args .t2) (omega arith))
 
 pub put-slots-spec : {M : Type 1} → statement M
 put-slots-spec =
@@ -71,7 +69,6 @@ put-slots-spec =
     (tie.spec
     Inv-loop
     μ-loop
-    (λ c κs. search needs)
     loop-holds
     (λ c. search needs)
     (λ c. search needs)

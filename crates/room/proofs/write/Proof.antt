@@ -13,9 +13,9 @@ use Rattle.room.proofs.write.Tie as tie
 returns : tie.Need-returns
 unfolding le recordBytes
 returns c =
-    let a = c .before .before .before .before .before .before .before .before .before .args in
+    let a = c .before .before .before .before .before .before .before .before .before .before .args in
     c .before .before .put-slots .ensures
-    ∙ ap (λ (l : List ℕ). take 16 l ++ slotBytes (now (a .slots)) ++ drop 48 l) (c .before .before .before .before .before .before .put-head .ensures)
+    ∙ ap (λ (l : List ℕ). take 16 l ++ slotBytes (now (a .slots)) ++ drop 48 l) (c .before .before .before .before .before .before .before .put-head .ensures)
     ∙ ap (λ (l : List ℕ). le 8 (a .from .0) ++ le 8 (a .to .0) ++ slotBytes (now (a .slots)) ++ l) (drop-drop 32 16 (now (a .room)))
 
 pub write-spec : {M : Type 1} → statement M
