@@ -2,21 +2,16 @@
 #define _POSIX_C_SOURCE 199309L
 #include <stdio.h>
 #include <string.h>
-#include <time.h>
 
+#include "nanoseconds.h"
 #include "plain.h"
+#include "scenario.h"
 
 // bench_step
 size_t record_lines(uint8_t *, size_t, const uint8_t *, size_t, size_t, size_t);
 uint64_t public_lines(const uint8_t *, size_t, size_t, const uint64_t *, size_t, uint64_t, uint8_t *);
 
-enum { PART = 474, HORIZON = 5040, REPEATS = 7 };
-
-static double nanoseconds(void) {
-    struct timespec t;
-    clock_gettime(CLOCK_MONOTONIC, &t);
-    return 1e9 * (double)t.tv_sec + (double)t.tv_nsec;
-}
+enum { PART = 474, REPEATS = 7 };
 
 static uint8_t *put_decimal(uint8_t *out, uint64_t x) {
     uint8_t digits[20];
@@ -46,16 +41,6 @@ static size_t plain_lines(uint8_t *out, const uint8_t *room, size_t n, size_t m)
     return (size_t)(at - out);
 }
 
-// One task asleep whose q is a tick, so that every plane is a tick long; the others share what it leaves.
-static size_t make_table(uint8_t *table, unsigned n, unsigned m) {
-    uint32_t each = HORIZON * (m - 1) / (n - 1), e = each < 1 ? 1 : each > HORIZON ? HORIZON : each;
-    for (unsigned i = 0; i < n; i++) {
-        uint32_t row[3] = {i + 1 < n ? HORIZON : 1, i + 1 < n ? e : 1, i + 1 < n ? HORIZON : 1};
-        memcpy(table + 12 * i, row, 12);
-    }
-    return 12 * (size_t)n;
-}
-
 static uint8_t table[1536], room[48 * PART], lines[65536], plain_out[65536];
 static uint64_t arrivals[127];
 
@@ -65,8 +50,8 @@ static size_t plain_text(size_t len, unsigned n, unsigned m, size_t *last) {
     size_t records = 0, part;
     plain_admit(table, len, m, &s);
     for (unsigned task = 1; task < n; task++) plain_arrive(&s, task);
-    while (s.now < HORIZON * s.scale) {
-        part = plain_run(&s, HORIZON, room, PART);
+    while (s.now < LONG * s.scale) {
+        part = plain_run(&s, LONG, room, PART);
         *last = plain_lines(plain_out, room, part, m);
         records += part;
     }
@@ -90,10 +75,10 @@ int main(void) {
     for (int a = 0; a < 3; a++)
         for (int b = 0; b < 3; b++) {
             unsigned n = tasks[a], m = processors[b];
-            size_t len = make_table(table, n, m), records = 0, last = 0, bytes = 0;
+            size_t len = long_table(table, n, m), records = 0, last = 0, bytes = 0;
             double plain = 0, loop = 0, plain_alone = 0, alone = 0;
             BEST(plain, records = plain_text(len, n, m, &last));
-            BEST(loop, public_lines(table, len, m, arrivals, n - 1, HORIZON, lines));
+            BEST(loop, public_lines(table, len, m, arrivals, n - 1, LONG, lines));
             if (memcmp(lines, plain_out, last)) {
                 printf("the texts differ\n");
                 return 1;
@@ -101,7 +86,7 @@ int main(void) {
             static Plain s;
             plain_admit(table, len, m, &s);
             for (unsigned task = 1; task < n; task++) plain_arrive(&s, task);
-            plain_run(&s, HORIZON, room, PART);
+            plain_run(&s, LONG, room, PART);
             BEST(plain_alone, last = plain_lines(plain_out, room, PART, m));
             BEST(alone, bytes = record_lines(lines, sizeof lines, room, sizeof room, PART, m));
             if (bytes != last || memcmp(lines, plain_out, last)) {

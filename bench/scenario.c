@@ -102,3 +102,12 @@ uint64_t scenario_make(Scenario *s, Kind kind, unsigned n, unsigned m, uint64_t 
     }
     return 0;
 }
+
+size_t long_table(uint8_t *table, unsigned n, unsigned m) {
+    uint32_t each = LONG * (m - 1) / (n - 1), e = each < 1 ? 1 : each > LONG ? LONG : each;
+    for (unsigned i = 0; i < n; i++) {
+        uint32_t row[3] = {i + 1 < n ? LONG : 1, i + 1 < n ? e : 1, i + 1 < n ? LONG : 1};
+        memcpy(table + 12 * i, row, 12);
+    }
+    return 12 * (size_t)n;
+}

@@ -29,4 +29,9 @@ typedef struct {
 // n tasks on m processors; len calls are written, or as many as the clock allows. 0, or the number by which the table is refused.
 uint64_t scenario_make(Scenario *s, Kind kind, unsigned n, unsigned m, uint64_t seed, Call *calls, size_t len);
 
+// A table for runs without an arrival, up to tick LONG: one task sleeps whose q is a tick, so that every plane is a tick long, and the
+// n - 1 others, which arrive at 0, share the processors that it leaves. How many bytes.
+enum { LONG = 5040 };
+size_t long_table(uint8_t *table, unsigned n, unsigned m);
+
 #endif

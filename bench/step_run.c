@@ -4,9 +4,9 @@
 #include <stdbool.h>
 #include <stdio.h>
 #include <string.h>
-#include <time.h>
 
 #include "../include/robinrow.h"
+#include "nanoseconds.h"
 #include "plain.h"
 #include "scenario.h"
 
@@ -19,12 +19,6 @@ bool held_check(size_t, size_t, uint64_t, uint64_t, bool, uint64_t, size_t, size
 uint64_t public_calls(const uint8_t *, size_t, size_t, const uint64_t *, size_t, uint8_t *, size_t);
 
 enum { CALLS = 20000, REPEATS = 7, SEEN = 64, RECORDS = 1000 };
-
-static double nanoseconds(void) {
-    struct timespec t;
-    clock_gettime(CLOCK_MONOTONIC, &t);
-    return 1e9 * (double)t.tv_sec + (double)t.tv_nsec;
-}
 
 // What a contender leaves: the present, and the last record. All four must leave the same.
 typedef struct {
@@ -106,21 +100,11 @@ static double one_check(const Scenario *c) {
     return good == checks ? least : -1;
 }
 
-// A table for long runs: one task asleep whose q is a tick, so that every plane is a tick long; the others share what it leaves.
-static size_t run_table(uint8_t *table, unsigned n, unsigned m) {
-    uint32_t each = 5040 * (m - 1) / (n - 1), e = each < 1 ? 1 : each > 5040 ? 5040 : each;
-    for (unsigned i = 0; i < n; i++) {
-        uint32_t row[3] = {i + 1 < n ? 5040 : 1, i + 1 < n ? e : 1, i + 1 < n ? 5040 : 1};
-        memcpy(table + 12 * i, row, 12);
-    }
-    return 12 * (size_t)n;
-}
-
 // RECORDS records in one run, plain and on bytes; nanoseconds a record of each, or a negative number where they differ.
 static double one_run(unsigned n, unsigned m, double *plain_time) {
     static uint8_t table[1536], first[ROBINROW_STATE_SIZE], state[ROBINROW_STATE_SIZE], room[2][48 * RECORDS];
     static Plain start, s;
-    size_t len = run_table(table, n, m);
+    size_t len = long_table(table, n, m);
     plain_admit(table, len, m, &start);
     robinrow_admit(table, len, m, first, sizeof first);
     for (unsigned task = 1; task < n; task++) {
@@ -131,12 +115,12 @@ static double one_run(unsigned n, unsigned m, double *plain_time) {
     for (int i = 0; i < REPEATS; i++) {
         s = start;
         double from = nanoseconds();
-        size_t written = plain_run(&s, 5040, room[0], RECORDS);
+        size_t written = plain_run(&s, LONG, room[0], RECORDS);
         double took = nanoseconds() - from;
         if (i == 0 || took < least_plain) least_plain = took;
         memcpy(state, first, sizeof state);
         from = nanoseconds();
-        uint64_t answer = robinrow_run(state, sizeof state, 5040, room[1], sizeof room[1]);
+        uint64_t answer = robinrow_run(state, sizeof state, LONG, room[1], sizeof room[1]);
         took = nanoseconds() - from;
         if (i == 0 || took < least) least = took;
         if (written != RECORDS || answer != 256 * (uint64_t)RECORDS || memcmp(room[0], room[1], sizeof room[0])) return -1;
