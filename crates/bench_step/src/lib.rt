@@ -9,7 +9,7 @@ ghost use Rattle.holding.specs.Holds.{holdsOf};
 ghost use Rattle.calls.specs.Admit.{admitOf};
 ghost use Rattle.bench_step.specs.Moments.{termsOf, momentOf};
 ghost use Rattle.bench_step.specs.Held.{Taken, doneOf, AllTaken, doneAll};
-ghost use Rattle.bench_step.specs.Made.{made, madeAll, Ended};
+ghost use Rattle.bench_step.specs.Made.{madeAll, Ended};
 ghost use Rattle.text.specs.Output.{Put, recordLines};
 use ground::Instant;
 use plane::State;
@@ -214,28 +214,22 @@ pub extern "C" fn held_check(
     )
 }
 
-// One public call: an arrival of this task, or from 4,294,967,296 on a step to the horizon that lies above.
-fn make(s: State, call: u64, room: &mut [u8]) -> State
-    ensures is { λ r. ⌜ (r ≡ made (length (now (room .entry))) s call) × (length (now (room .exit)) ≡ length (now (room .entry))) ⌝ }
-{
-    if call < 4294967296 {
-        let a = calls::arrive(s, call);
-        let came = a.state;
-        return came;
-    }
-    let r = calls::step(s, call - 4294967296, room);
-    let moved = r.state;
-    moved
-}
-
-// Public calls, each on the state that the last one handed back.
+// Public calls, each on the state that the last one handed back: an arrival of this task, or from 4,294,967,296 on a step to
+// the horizon that lies above. The calls are made here, not in a function of one call, which would copy the state once more.
 fn make_all(first: State, list: &[u64], room: &mut [u8]) -> State
     ensures is { λ r. ⌜ r ≡ madeAll (length (now (room .entry))) first (now (list .entry)) ⌝ }
 {
     let mut s = first;
     let mut i: usize = 0;
     while i < list.len() {
-        s = make(s, list[i], room);
+        let call = list[i];
+        if call < 4294967296 {
+            let a = calls::arrive(s, call);
+            s = a.state;
+        } else {
+            let r = calls::step(s, call - 4294967296, room);
+            s = r.state;
+        }
         i += 1;
     }
     s

@@ -18,7 +18,6 @@ use Rattle.ground.proofs.Tests.{leb-says, ltb-says, is-true, is-false}
 use Rattle.rules.specs.Answers.{isDone}
 use Rattle.rules.specs.Reasons.{ArriveReason}
 use Rattle.rules.specs.State.{Task, at}
-use Rattle.rules.proofs.Calls.{Comes}
 use Rattle.rules.proofs.Demands.{done-comes, by-answer}
 use Rattle.rules.proofs.Keeping.{not-both}
 use Rattle.rules.proofs.Refusing.{arrive-answers}
@@ -31,8 +30,8 @@ use Rattle.whole.proofs.Keeping.{task-at}
 use Rattle.rules.specs.Record.{recordBytes}
 use Rattle.calls.specs.declared.Ran.{Ran}
 use Rattle.calls.specs.Step.{movesAnswer, stepAnswerOf, stepOf, stepRoom}
-use Rattle.calls.specs.Run.{ranBy, filledBy, runOf, runRoom}
-use Rattle.calls.specs.Arrive.{comesAnswer, Dated, arrivedBy, arriveAnswerOf, arriveOf}
+use Rattle.calls.specs.Run.{went, filledBy, runOf, runRoom}
+use Rattle.calls.specs.Arrive.{comesAnswer, Dated, MayCome, arriveAnswerOf, arriveOf}
 use Rattle.calls.proofs.Refining.{whole-holds, arrive-same}
 
 -- a state that holds together is dated
@@ -53,30 +52,30 @@ whole-dated s W =
 pub done-is : (a : Answer) → isDone a ≡ true → a ≡ Done
 done-is a d = by-answer _ a (λ e. e) (λ f. not-both _ (sym f ∙ d))
 
--- ARRIVE
-pub arrive-13 : (s : State) (task : ℕ) → holdsOf s ≡ false → record { answer = NotTogether; state = s } ≡ arriveOf s task
-unfolding arriveOf arriveAnswerOf
+-- ARRIVE: the number
+pub arrive-13 : (s : State) (task : ℕ) → holdsOf s ≡ false → NotTogether ≡ arriveAnswerOf s task
+unfolding arriveAnswerOf
 arrive-13 s task e = rw e
 
-pub arrive-by : (s : State) (task : ℕ) → holdsOf s ≡ true → arrivedBy s task ≡ arriveOf s task
-unfolding arriveOf arriveAnswerOf arrivedBy
-arrive-by s task h = rw h
-
-module _ (s : State) (task : ℕ) (a : Answer) (e : a ≡ comesAnswer s task) where
-  pub arrive-no : isDone a ≡ false → record { answer = a; state = s } ≡ arrivedBy s task
-  unfolding arrivedBy
-  arrive-no d = rw (← e, d)
-
-  pub arrive-yes : isDone a ≡ true → (k : State) → k ≡ arrivedOf s (task - 1) → record { answer = a; state = k } ≡ arrivedBy s task
-  unfolding arrivedBy
-  arrive-yes d k q = rw (← e, d, q)
-
-  pub arrive-comes : Whole s → isDone a ≡ true → (1 ≤ task) × Comes (view s) (task - 1)
+module _ (s : State) (task : ℕ) (W : Whole s) (a : Answer) (e : a ≡ comesAnswer s task) where
+  pub arrive-by : a ≡ arriveAnswerOf s task
   unfolding arriveAnswerOf
-  arrive-comes W d =
-      let z : arriveAnswerOf s task ≡ Done = ap (λ b. if b then comesAnswer s task else NotTogether) (whole-holds s W) ∙ sym e ∙ done-is a d in
-      let R = subst (ArriveReason (view s) task) (sym (arrive-same s task W) ∙ z) (arrive-answers (view s) task) in
-      (R .1 .0, done-comes (view s) task R)
+  arrive-by = e ∙ sym (ap (λ b. if b then comesAnswer s task else NotTogether) (whole-holds s W))
+
+  pub arrive-comes : isDone a ≡ true → MayCome s task
+  arrive-comes d =
+      let R = subst (ArriveReason (view s) task) (sym (arrive-same s task W) ∙ sym arrive-by ∙ done-is a d) (arrive-answers (view s) task) in
+      record { whole = W; number = R .1 .0; comes = done-comes (view s) task R }
+
+-- ARRIVE: what it hands back
+module _ (s : State) (task : ℕ) (a : Answer) (e : a ≡ arriveAnswerOf s task) where
+  pub arrive-no : isDone a ≡ false → (k : State) → k ≡ s → record { state = k; answer = a } ≡ arriveOf s task
+  unfolding arriveOf
+  arrive-no d k q = rw (← e, d, q)
+
+  pub arrive-yes : isDone a ≡ true → (k : State) → k ≡ arrivedOf s (task - 1) → record { state = k; answer = a } ≡ arriveOf s task
+  unfolding arriveOf
+  arrive-yes d k q = rw (← e, d, q)
 
 -- STEP AND RUN: the number
 module _ (s : State) (horizon room : ℕ) where
@@ -111,23 +110,24 @@ module _ (s : State) (horizon room : ℕ) where
             let later : leb (horizon * s .table .scale) (s .now .0) ≡ false = is-false _ (leb-says (horizon * s .table .scale) (s .now .0)) (λ z. omega arith) in
             rw (h, short, past, later)
 
--- STEP AND RUN: a refusal hands back the state and leaves the room
+-- STEP AND RUN: what they hand back, and the room
 module _ (s : State) (horizon : ℕ) (room : List ℕ) (a : Answer) (e : a ≡ stepAnswerOf s horizon (length room)) where
   module _ (d : isDone a ≡ false) where
-    pub step-no : (record { answer = a; state = s } ≡ stepOf s horizon (length room)) × (room ≡ stepRoom s horizon room)
+    pub step-no : (k : State) → k ≡ s → (l : List ℕ) → l ≡ room → (record { state = k; answer = a } ≡ stepOf s horizon (length room)) × (l ≡ stepRoom s horizon room)
     unfolding stepOf stepRoom
-    step-no = (rw (← e, d), rw (← e, d))
+    step-no k q l f = (rw (← e, d, q), rw (← e, d, f))
 
-    pub run-no : (record { answer = a; state = s; records = 0 } ≡ runOf s horizon (length room)) × (room ≡ runRoom s horizon room)
+    pub run-no : (record { state = s; answer = a; records = 0 } ≡ runOf s horizon (length room)) × (room ≡ runRoom s horizon room)
     unfolding runOf runRoom
     run-no = (rw (← e, d), rw (← e, d))
 
   module _ (d : isDone a ≡ true) where
-    pub step-yes : (record { answer = a; state = movedOf s horizon .state } ≡ stepOf s horizon (length room))
-        × (recordBytes (movedOf s horizon .rec) ++ drop 48 room ≡ stepRoom s horizon room)
+    pub step-yes : (k : State) → k ≡ movedOf s horizon .state → (l : List ℕ) → l ≡ recordBytes (movedOf s horizon .rec) ++ drop 48 room
+        → (record { state = k; answer = a } ≡ stepOf s horizon (length room)) × (l ≡ stepRoom s horizon room)
     unfolding stepOf stepRoom
-    step-yes = (rw (← e, d), rw (← e, d))
+    step-yes k q l f = (rw (← e, d, q), rw (← e, d, f))
 
-    pub run-yes : (ranBy s horizon (length room) ≡ runOf s horizon (length room)) × (filledBy s horizon room ≡ runRoom s horizon room)
-    unfolding runOf runRoom ranBy filledBy
-    run-yes = let q : stepAnswerOf s horizon (length room) ≡ Done = sym e ∙ done-is a d in (rw q, rw q)
+    pub run-yes : (k : State) (n : ℕ) → k ≡ went (length room / 48) horizon s .state → n ≡ went (length room / 48) horizon s .records → (l : List ℕ) → l ≡ filledBy s horizon room
+        → (record { state = k; answer = a; records = n } ≡ runOf s horizon (length room)) × (l ≡ runRoom s horizon room)
+    unfolding runOf runRoom filledBy
+    run-yes k n q f l g = let z : stepAnswerOf s horizon (length room) ≡ Done = sym e ∙ done-is a d in (rw (← e, d, q, f), rw (z, g))

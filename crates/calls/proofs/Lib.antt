@@ -1,4 +1,5 @@
 pub mod Parts
+pub mod Sizes
 pub mod Refining
 pub mod Serving
 pub mod Went

@@ -1,10 +1,16 @@
 -- A state put together from its parts
+use mathlib.Core.Path.{_≡_}
 use mathlib.Core.Bool.{Bool, false}
+use mathlib.Core.List.{List}
+use Prim.Native.Nat.{ℕ}
 use lib.ListN.{replicate}
 use Rattle.queue.specs.declared.Queue.{Queue}
 use Rattle.table.specs.declared.Table.{Table}
 use Rattle.plane.specs.declared.State.{State}
 use Rattle.plane.specs.Machine.{noSlots}
+use Rattle.whole.specs.declared.Terms.{Terms}
+use Rattle.whole.specs.declared.Moment.{Moment}
+use Rattle.whole.specs.Lent.{stateIn}
 
 -- a state at instant 0 with these queues
 abbrev pub startWith : Table → Queue → Queue → State
@@ -19,3 +25,9 @@ startWith t r w =
       waiting = w;
       slots = noSlots;
     }
+
+-- the same parts, the same state
+pub same-parts : (t : Terms) (period exec deadline share order : List ℕ) {a b : Moment} {awake awake' arrived arrived' : List Bool} {last last' rk rk' rt rt' wk wk' wt wt' slots slots' : List ℕ}
+    → awake ≡ awake' → arrived ≡ arrived' → last ≡ last' → rk ≡ rk' → rt ≡ rt' → wk ≡ wk' → wt ≡ wt' → slots ≡ slots' → a ≡ b
+    → stateIn t a period exec deadline share order awake arrived last rk rt wk wt slots ≡ stateIn t b period exec deadline share order awake' arrived' last' rk' rt' wk' wt' slots'
+same-parts t period exec deadline share order e1 e2 e3 e4 e5 e6 e7 e8 e9 = rw (e1, e2, e3, e4, e5, e6, e7, e8, e9)

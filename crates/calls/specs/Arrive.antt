@@ -10,7 +10,10 @@ use Rattle.rules.specs.declared.Answer.{Answer}
 use Rattle.rules.specs.declared.Answer.the-variants.{Done, TaskNumber, BetweenTicks, TooSoon, NotTogether}
 use Rattle.rules.specs.Answers.{isDone}
 use Rattle.plane.specs.declared.State.{State}
+use Rattle.rules.proofs.Calls.{Comes}
 use Rattle.plane.specs.Machine.{arrivedOf}
+use Rattle.plane.specs.View.{view}
+use Rattle.whole.specs.Whole.{Whole}
 use Rattle.holding.specs.Holds.{holdsOf}
 use Rattle.calls.specs.declared.Arrived.{Arrived}
 
@@ -42,13 +45,15 @@ pub record Dated (count scale : ℕ) (arrived : List Bool) (last : List ℕ) : T
   pub scale-pos : 0 < scale
   pub dates : (i : ℕ) → i < count → getD arrived i false ≡ true → getD last i 0 ≤ 4294967295
 
--- an arrival on a state that holds together
-unfoldable pub arrivedBy : State → ℕ → Arrived
-arrivedBy s task = record { answer = comesAnswer s task; state = if isDone (comesAnswer s task) then arrivedOf s (task - 1) else s }
-
 -- "In arrive: 13, 7, 8, 9."
 unfoldable pub arriveAnswerOf : State → ℕ → Answer
 arriveAnswerOf s task = if holdsOf s then comesAnswer s task else NotTogether
 
 unfoldable pub arriveOf : State → ℕ → Arrived
 arriveOf s task = record { answer = arriveAnswerOf s task; state = if isDone (arriveAnswerOf s task) then arrivedOf s (task - 1) else s }
+
+-- a task can arrive
+pub record MayCome (s : State) (task : ℕ) : Type 0 where
+  pub whole : Whole s
+  pub number : 1 ≤ task
+  pub comes : Comes (view s) (task - 1)

@@ -6,7 +6,6 @@ use lib.Dec.{ltb}
 use lib.ListN.{length, drop, replicate}
 use Rattle.ground.specs.Tests.{if_then_else_}
 use Rattle.rules.specs.declared.Answer.{Answer}
-use Rattle.rules.specs.declared.Answer.the-variants.{Done}
 use Rattle.rules.specs.Answers.{isDone}
 use Rattle.rules.specs.Record.{recordBytes}
 use Rattle.plane.specs.declared.State.{State}
@@ -37,10 +36,7 @@ went (suc n) horizon s =
 unfoldable pub goesOn : ℕ → ℕ → ℕ → Bool
 goesOn left now stop = if ltb 0 left then ltb now stop else false
 
--- what the steps come to, with no refusal
-unfoldable pub ranBy : State → ℕ → ℕ → Ran
-ranBy s horizon room = record { answer = Done; state = went (room / 48) horizon s .state; records = went (room / 48) horizon s .records }
-
+-- the room after the steps, with no refusal
 unfoldable pub filledBy : State → ℕ → List ℕ → List ℕ
 filledBy s horizon room = let b = went (length room / 48) horizon s .bytes in b ++ drop (length b) room
 

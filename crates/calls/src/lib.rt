@@ -1,19 +1,18 @@
 // The calls: admit, arrive, step, and run for many steps at once. None of them asks anything of its arguments.
 ghost use mathlib.Core.Path.{_≡_};
 ghost use mathlib.Core.Bool.{true};
-ghost use mathlib.Core.List.{_++_};
-ghost use lib.ListN.{length, drop};
-ghost use Rattle.rules.specs.Record.{recordBytes};
-ghost use Rattle.plane.specs.Machine.{movedOf};
+ghost use lib.ListN.{length};
 ghost use Rattle.holding.specs.Holds.{holdsOf};
 ghost use Rattle.whole.specs.Fresh.{freshState};
 ghost use Rattle.calls.specs.Admit.{admitOf};
-ghost use Prim.Native.Nat.{_*_, _<_, _≤_};
-ghost use Rattle.calls.specs.Arrive.{comesBy, Dated, arrivedBy, arriveOf};
+ghost use Prim.Native.Nat.{_<_};
+ghost use Rattle.calls.specs.Arrive.{comesBy, Dated, arriveAnswerOf, MayCome, arriveOf};
 ghost use Rattle.whole.specs.Whole.{Whole};
+ghost use Rattle.whole.specs.Lent.{here};
+ghost use Rattle.plane.specs.View.{Sized};
 ghost use Rattle.rules.specs.Answers.{isDone};
 ghost use Rattle.calls.specs.Step.{stepAnswerOf, Ahead, stepOf, stepRoom};
-ghost use Rattle.calls.specs.Run.{goesOn, ranBy, filledBy, runOf, runRoom};
+ghost use Rattle.calls.specs.Run.{goesOn, runOf, runRoom};
 use ground::Instant;
 use plane::Jobs;
 use plane::State;
@@ -30,22 +29,22 @@ pub struct Admitted {
     pub state: State,
 }
 
-// What an arrival answers.
+// What an arrival answers. Here and below the state stands first: with one byte ahead of it, the compiler copies it once more.
 pub struct Arrived {
-    pub answer: Answer,
     pub state: State,
+    pub answer: Answer,
 }
 
 // What a step answers; its record is in the room.
 pub struct Stepped {
-    pub answer: Answer,
     pub state: State,
+    pub answer: Answer,
 }
 
 // What a run answers; that many records are in the room.
 pub struct Ran {
-    pub answer: Answer,
     pub state: State,
+    pub answer: Answer,
     pub records: usize,
 }
 
@@ -127,19 +126,160 @@ fn comes(
     Answer::Done
 }
 
-// AN ARRIVAL AND A STEP
+// THE REFUSALS, decided on lent parts: a call takes the state apart once, and puts it together once.
 
-// Does the state hold together? Then it is whole.
-fn check(s: State) -> bool
-    ensures is { λ r. ⌜ (r ≡ holdsOf s) × (r ≡ true → Whole s) ⌝ }
+// Does the state of these parts hold together? Then it is whole.
+fn check(
+    terms: Terms,
+    moment: Moment,
+    period: &[u32; 128],
+    exec: &[u32; 128],
+    deadline: &[u32; 128],
+    share: &[u64; 128],
+    order: &[u16; 128],
+    awake: &[bool; 128],
+    arrived: &[bool; 128],
+    last: &[u64; 128],
+    rk: &[u64; 128],
+    rt: &[u16; 128],
+    wk: &[u64; 128],
+    wt: &[u16; 128],
+    slots: &[u16; 16],
+) -> bool
+    requires sized { ⌜ Sized (here terms moment period exec deadline share order awake arrived last rk rt wk wt slots) ⌝ }
+    ensures is { λ r. ⌜ (r ≡ holdsOf (here terms moment (period .entry) (exec .entry) (deadline .entry) (share .entry) (order .entry) (awake .entry) (arrived .entry) (last .entry) (rk .entry) (rt .entry) (wk .entry) (wt .entry) (slots .entry))) × (r ≡ true → Whole (here terms moment (period .entry) (exec .entry) (deadline .entry) (share .entry) (order .entry) (awake .entry) (arrived .entry) (last .entry) (rk .entry) (rt .entry) (wk .entry) (wt .entry) (slots .entry))) ⌝ }
 {
-    holding::holds(s)
+    let present = moment.now;
+    holding::holds_lent(
+        period,
+        exec,
+        deadline,
+        share,
+        order,
+        terms.count,
+        terms.m,
+        terms.scale,
+        present,
+        moment.going,
+        moment.end,
+        awake,
+        arrived,
+        last,
+        rk,
+        rt,
+        moment.running,
+        wk,
+        wt,
+        moment.waiting,
+        slots,
+    )
 }
 
-// An arrival on a state that holds together.
-fn arrive_whole(s: State, task: u64) -> Arrived
-    requires whole { ⌜ Whole s ⌝ }
-    ensures is { λ r. ⌜ r ≡ arrivedBy s task ⌝ }
+// The number that arrive answers with; 0 means that the task may come.
+fn may_arrive(
+    terms: Terms,
+    moment: Moment,
+    task: u64,
+    period: &[u32; 128],
+    exec: &[u32; 128],
+    deadline: &[u32; 128],
+    share: &[u64; 128],
+    order: &[u16; 128],
+    awake: &[bool; 128],
+    arrived: &[bool; 128],
+    last: &[u64; 128],
+    rk: &[u64; 128],
+    rt: &[u16; 128],
+    wk: &[u64; 128],
+    wt: &[u16; 128],
+    slots: &[u16; 16],
+) -> Answer
+    requires sized { ⌜ Sized (here terms moment period exec deadline share order awake arrived last rk rt wk wt slots) ⌝ }
+    ensures is { λ r. ⌜ (r ≡ arriveAnswerOf (here terms moment (period .entry) (exec .entry) (deadline .entry) (share .entry) (order .entry) (awake .entry) (arrived .entry) (last .entry) (rk .entry) (rt .entry) (wk .entry) (wt .entry) (slots .entry)) task) × (isDone r ≡ true → MayCome (here terms moment (period .entry) (exec .entry) (deadline .entry) (share .entry) (order .entry) (awake .entry) (arrived .entry) (last .entry) (rk .entry) (rt .entry) (wk .entry) (wt .entry) (slots .entry)) task) ⌝ }
+{
+    if !check(
+        terms,
+        moment,
+        period,
+        exec,
+        deadline,
+        share,
+        order,
+        awake,
+        arrived,
+        last,
+        rk,
+        rt,
+        wk,
+        wt,
+        slots,
+    ) {
+        return Answer::NotTogether;
+    }
+    let present = moment.now;
+    comes(terms, present, period, arrived, last, task)
+}
+
+// The number that step and run answer with; 0 means that the step can be taken.
+fn may_step(
+    terms: Terms,
+    moment: Moment,
+    horizon: u64,
+    len: usize,
+    period: &[u32; 128],
+    exec: &[u32; 128],
+    deadline: &[u32; 128],
+    share: &[u64; 128],
+    order: &[u16; 128],
+    awake: &[bool; 128],
+    arrived: &[bool; 128],
+    last: &[u64; 128],
+    rk: &[u64; 128],
+    rt: &[u16; 128],
+    wk: &[u64; 128],
+    wt: &[u16; 128],
+    slots: &[u16; 16],
+) -> Answer
+    requires sized { ⌜ Sized (here terms moment period exec deadline share order awake arrived last rk rt wk wt slots) ⌝ }
+    ensures is { λ r. ⌜ (r ≡ stepAnswerOf (here terms moment (period .entry) (exec .entry) (deadline .entry) (share .entry) (order .entry) (awake .entry) (arrived .entry) (last .entry) (rk .entry) (rt .entry) (wk .entry) (wt .entry) (slots .entry)) horizon len) × (isDone r ≡ true → Ahead (here terms moment (period .entry) (exec .entry) (deadline .entry) (share .entry) (order .entry) (awake .entry) (arrived .entry) (last .entry) (rk .entry) (rt .entry) (wk .entry) (wt .entry) (slots .entry)) horizon len) ⌝ }
+{
+    if !check(
+        terms,
+        moment,
+        period,
+        exec,
+        deadline,
+        share,
+        order,
+        awake,
+        arrived,
+        last,
+        rk,
+        rt,
+        wk,
+        wt,
+        slots,
+    ) {
+        return Answer::NotTogether;
+    }
+    if len < 48 {
+        return Answer::RoomTooShort;
+    }
+    if 4294967295 < horizon {
+        return Answer::HorizonPastClock;
+    }
+    let present = moment.now;
+    if horizon * terms.scale <= present.0 {
+        return Answer::HorizonNotLater;
+    }
+    Answer::Done
+}
+
+// THE CALLS
+
+// A task arrives at the present instant.
+pub fn arrive(s: State, task: u64) -> Arrived
+    ensures is { λ r. ⌜ r ≡ arriveOf s task ⌝ }
 {
     let table = s.table;
     let period = table.period;
@@ -164,13 +304,6 @@ fn arrive_whole(s: State, task: u64) -> Arrived
         m: table.m,
         scale: table.scale,
     };
-    let answer = comes(terms, present, &period, &arrived, &last, task);
-    if !table::is_done(answer) {
-        return Arrived {
-            answer: answer,
-            state: s,
-        };
-    }
     let moment = Moment {
         now: present,
         going: s.going,
@@ -178,24 +311,45 @@ fn arrive_whole(s: State, task: u64) -> Arrived
         running: running.len,
         waiting: waiting.len,
     };
-    let r = whole::arrive_in(
+    let answer = may_arrive(
         terms,
         moment,
-        (task - 1) as usize,
+        task,
         &period,
         &exec,
         &deadline,
         &share,
         &order,
-        &mut awake,
-        &mut arrived,
-        &mut last,
-        &mut rk,
-        &mut rt,
-        &mut wk,
-        &mut wt,
-        &mut slots,
+        &awake,
+        &arrived,
+        &last,
+        &rk,
+        &rt,
+        &wk,
+        &wt,
+        &slots,
     );
+    let mut r = moment;
+    if table::is_done(answer) {
+        r = whole::arrive_in(
+            terms,
+            moment,
+            (task - 1) as usize,
+            &period,
+            &exec,
+            &deadline,
+            &share,
+            &order,
+            &mut awake,
+            &mut arrived,
+            &mut last,
+            &mut rk,
+            &mut rt,
+            &mut wk,
+            &mut wt,
+            &mut slots,
+        );
+    }
     let at = r.now;
     let run = Queue {
         keys: rk,
@@ -212,37 +366,25 @@ fn arrive_whole(s: State, task: u64) -> Arrived
         arrived: arrived,
         last: last,
     };
-    let mut k = s;
-    k.now = at;
-    k.going = r.going;
-    k.end = r.end;
-    k.jobs = held;
-    k.running = run;
-    k.waiting = wait;
-    k.slots = slots;
+    let state = State {
+        table: table,
+        now: at,
+        going: r.going,
+        end: r.end,
+        jobs: held,
+        running: run,
+        waiting: wait,
+        slots: slots,
+    };
     Arrived {
+        state: state,
         answer: answer,
-        state: k,
     }
 }
 
-// A task arrives at the present instant.
-pub fn arrive(s: State, task: u64) -> Arrived
-    ensures is { λ r. ⌜ r ≡ arriveOf s task ⌝ }
-{
-    if !check(s) {
-        return Arrived {
-            answer: Answer::NotTogether,
-            state: s,
-        };
-    }
-    arrive_whole(s, task)
-}
-
-// A step on a state that holds together, to a horizon that lies ahead.
-fn step_whole(s: State, horizon: u64, room: &mut [u8]) -> State
-    requires ready { ⌜ Whole s × (s .now .0 < horizon * s .table .scale) × (horizon ≤ 4294967295) × (48 ≤ length (now room)) ⌝ }
-    ensures is { λ r. ⌜ (r ≡ movedOf s horizon .state) × (now (room .exit) ≡ recordBytes (movedOf s horizon .rec) ++ drop 48 (now (room .entry))) ⌝ }
+// Runs to the next event or the horizon, whichever is first, and writes one record.
+pub fn step(s: State, horizon: u64, room: &mut [u8]) -> Stepped
+    ensures is { λ r. ⌜ (r ≡ stepOf s horizon (length (now (room .entry)))) × (now (room .exit) ≡ stepRoom s horizon (now (room .entry))) ⌝ }
 {
     let table = s.table;
     let period = table.period;
@@ -274,25 +416,47 @@ fn step_whole(s: State, horizon: u64, room: &mut [u8]) -> State
         running: running.len,
         waiting: waiting.len,
     };
-    let r = whole::step_in(
+    let answer = may_step(
         terms,
         moment,
         horizon,
+        room.len(),
         &period,
         &exec,
         &deadline,
         &share,
         &order,
-        &mut awake,
+        &awake,
         &arrived,
         &last,
-        &mut rk,
-        &mut rt,
-        &mut wk,
-        &mut wt,
-        &mut slots,
-        room,
+        &rk,
+        &rt,
+        &wk,
+        &wt,
+        &slots,
     );
+    let mut r = moment;
+    if table::is_done(answer) {
+        r = whole::step_in(
+            terms,
+            moment,
+            horizon,
+            &period,
+            &exec,
+            &deadline,
+            &share,
+            &order,
+            &mut awake,
+            &arrived,
+            &last,
+            &mut rk,
+            &mut rt,
+            &mut wk,
+            &mut wt,
+            &mut slots,
+            room,
+        );
+    }
     let at = r.now;
     let run = Queue {
         keys: rk,
@@ -309,53 +473,19 @@ fn step_whole(s: State, horizon: u64, room: &mut [u8]) -> State
         arrived: arrived,
         last: last,
     };
-    let mut k = s;
-    k.now = at;
-    k.going = r.going;
-    k.end = r.end;
-    k.jobs = held;
-    k.running = run;
-    k.waiting = wait;
-    k.slots = slots;
-    k
-}
-
-// The number that step and run answer with; 0 means that the step can be taken.
-fn may_step(s: State, horizon: u64, len: usize) -> Answer
-    ensures is { λ r. ⌜ (r ≡ stepAnswerOf s horizon len) × (isDone r ≡ true → Ahead s horizon len) ⌝ }
-{
-    if !check(s) {
-        return Answer::NotTogether;
-    }
-    if len < 48 {
-        return Answer::RoomTooShort;
-    }
-    if 4294967295 < horizon {
-        return Answer::HorizonPastClock;
-    }
-    let table = s.table;
-    let present = s.now;
-    if horizon * table.scale <= present.0 {
-        return Answer::HorizonNotLater;
-    }
-    Answer::Done
-}
-
-// Runs to the next event or the horizon, whichever is first, and writes one record.
-pub fn step(s: State, horizon: u64, room: &mut [u8]) -> Stepped
-    ensures is { λ r. ⌜ (r ≡ stepOf s horizon (length (now (room .entry)))) × (now (room .exit) ≡ stepRoom s horizon (now (room .entry))) ⌝ }
-{
-    let answer = may_step(s, horizon, room.len());
-    if !table::is_done(answer) {
-        return Stepped {
-            answer: answer,
-            state: s,
-        };
-    }
-    let moved = step_whole(s, horizon, room);
+    let state = State {
+        table: table,
+        now: at,
+        going: r.going,
+        end: r.end,
+        jobs: held,
+        running: run,
+        waiting: wait,
+        slots: slots,
+    };
     Stepped {
+        state: state,
         answer: answer,
-        state: moved,
     }
 }
 
@@ -369,10 +499,10 @@ fn goes_on(left: usize, present: Instant, stop: Instant) -> bool
     false
 }
 
-// Steps on a state that holds together, while the horizon lies ahead and 48 bytes of the room are left.
-fn run_whole(s: State, horizon: u64, room: &mut [u8]) -> Ran
-    requires ready { ⌜ Whole s × (horizon ≤ 4294967295) ⌝ }
-    ensures is { λ r. ⌜ (r ≡ ranBy s horizon (length (now (room .entry)))) × (now (room .exit) ≡ filledBy s horizon (now (room .entry))) ⌝ }
+// Step after step till the horizon, or till less than 48 bytes of the room are left.
+pub fn run(s: State, horizon: u64, room: &mut [u8]) -> Ran
+    ensures is { λ r. ⌜ (r ≡ runOf s horizon (length (now (room .entry)))) × (now (room .exit) ≡ runRoom s horizon (now (room .entry))) ⌝ }
+    ensures ahead { λ r. ⌜ (isDone (r .answer) ≡ true → Ahead s horizon (length (now (room .entry)))) ⌝ }
 {
     let table = s.table;
     let period = table.period;
@@ -404,6 +534,32 @@ fn run_whole(s: State, horizon: u64, room: &mut [u8]) -> Ran
         running: running.len,
         waiting: waiting.len,
     };
+    let answer = may_step(
+        terms,
+        moment,
+        horizon,
+        room.len(),
+        &period,
+        &exec,
+        &deadline,
+        &share,
+        &order,
+        &awake,
+        &arrived,
+        &last,
+        &rk,
+        &rt,
+        &wk,
+        &wt,
+        &slots,
+    );
+    if !table::is_done(answer) {
+        return Ran {
+            state: s,
+            answer: answer,
+            records: 0,
+        };
+    }
     let until = horizon * table.scale;
     let stop = Instant(until);
     let mut r = moment;
@@ -449,33 +605,19 @@ fn run_whole(s: State, horizon: u64, room: &mut [u8]) -> Ran
         arrived: arrived,
         last: last,
     };
-    let mut k = s;
-    k.now = at;
-    k.going = r.going;
-    k.end = r.end;
-    k.jobs = held;
-    k.running = run;
-    k.waiting = wait;
-    k.slots = slots;
+    let state = State {
+        table: table,
+        now: at,
+        going: r.going,
+        end: r.end,
+        jobs: held,
+        running: run,
+        waiting: wait,
+        slots: slots,
+    };
     Ran {
-        answer: Answer::Done,
-        state: k,
+        state: state,
+        answer: answer,
         records: records,
     }
-}
-
-// Step after step till the horizon, or till less than 48 bytes of the room are left.
-pub fn run(s: State, horizon: u64, room: &mut [u8]) -> Ran
-    ensures is { λ r. ⌜ (r ≡ runOf s horizon (length (now (room .entry)))) × (now (room .exit) ≡ runRoom s horizon (now (room .entry))) ⌝ }
-    ensures ahead { λ r. ⌜ (isDone (r .answer) ≡ true → Ahead s horizon (length (now (room .entry)))) ⌝ }
-{
-    let answer = may_step(s, horizon, room.len());
-    if !table::is_done(answer) {
-        return Ran {
-            answer: answer,
-            state: s,
-            records: 0,
-        };
-    }
-    run_whole(s, horizon, room)
 }

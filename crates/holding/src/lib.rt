@@ -7,7 +7,6 @@ use columns::order_ok;
 use columns::table_ok;
 use ground::Instant;
 use jobs::lasts_ok;
-use plane::State;
 use planes::closed_ok;
 use planes::open_ok;
 
@@ -95,52 +94,5 @@ pub fn holds_lent(
         wt,
         wn,
         slots,
-    )
-}
-
-// Does the state hold together?
-pub fn holds(s: State) -> bool
-    ensures is { λ r. ⌜ r ≡ holdsOf s ⌝ }
-{
-    let table = s.table;
-    let period = table.period;
-    let exec = table.exec;
-    let deadline = table.deadline;
-    let share = table.share;
-    let order = table.order;
-    let jobs = s.jobs;
-    let awake = jobs.awake;
-    let arrived = jobs.arrived;
-    let last = jobs.last;
-    let running = s.running;
-    let rk = running.keys;
-    let rt = running.tasks;
-    let waiting = s.waiting;
-    let wk = waiting.keys;
-    let wt = waiting.tasks;
-    let slots = s.slots;
-    let present = s.now;
-    holds_lent(
-        &period,
-        &exec,
-        &deadline,
-        &share,
-        &order,
-        table.count,
-        table.m,
-        table.scale,
-        present,
-        s.going,
-        s.end,
-        &awake,
-        &arrived,
-        &last,
-        &rk,
-        &rt,
-        running.len,
-        &wk,
-        &wt,
-        waiting.len,
-        &slots,
     )
 }
