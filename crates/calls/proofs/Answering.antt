@@ -18,7 +18,7 @@ use Rattle.ground.proofs.Tests.{leb-says, ltb-says, is-true, is-false}
 use Rattle.rules.specs.Answers.{isDone}
 use Rattle.rules.specs.Reasons.{ArriveReason}
 use Rattle.rules.specs.State.{Task, at}
-use Rattle.rules.proofs.Demands.{done-comes, by-answer}
+use Rattle.rules.proofs.Jobs.{done-comes, by-answer}
 use Rattle.rules.proofs.Keeping.{not-both}
 use Rattle.rules.proofs.Refusing.{arrive-answers}
 use Rattle.rules.proofs.Standing.{facts}

@@ -1,11 +1,11 @@
 -- The three demands hold of the calls
 use mathlib.Core.Path.{_≡_, refl, sym, _∙_, ap, subst}
 use mathlib.Core.Bool.{Bool, true, false, not}
-use mathlib.Core.Logic.{_⊎_, inl, inr}
+use mathlib.Core.Logic.{_≢_, inl, inr}
 use mathlib.Core.List.{List, [], _∷_, _++_, map}
-use Prim.Native.Nat.{ℕ, zero, suc, _+_, _*_, _-_, _/_, _≤_, _<_}
+use Prim.Native.Nat.{ℕ, suc, _*_, _-_, _/_}
 use native.Mathlib.Omega.{arith}
-use lib.Dec.{leb, ltb, eqb}
+use lib.Dec.{leb, ltb}
 use lib.ListN.{length, take, drop, length-replicate}
 use Rattle.rules.specs.declared.Answer.{Answer}
 use Rattle.rules.specs.declared.Answer.the-variants.{Done, Processors, TableLength, RowRange, RowExecution, Scale, Shares, TaskNumber, BetweenTicks, TooSoon, HorizonPastClock, HorizonNotLater, RoomTooShort, NotTogether, TextForm}
@@ -24,13 +24,16 @@ use Rattle.rules.specs.Computed.{computed}
 use Rattle.rules.specs.Figures.{tableP1, towards, line, listing}
 use Rattle.rules.proofs.Figures.{figures}
 use Rattle.rules.specs.Table.{rowsOf, tableBytes}
-use Rattle.rules.proofs.Demands.{by-answer, admit-passes, start-good}
+use Rattle.rules.proofs.Jobs.{by-answer, Good}
+use Rattle.rules.proofs.Starting.{admit-passes}
+use Rattle.rules.proofs.Demands.{start-good, job-of, course-of, others-stay}
+use Rattle.rules.specs.Demands.{Untouched}
 use Rattle.rules.proofs.Keeping.{not-both}
 use Rattle.rules.proofs.Refusing.{step-answers, admit-answers}
 use Rattle.table.specs.Tabled.{tableFrom, blankTable, tabledOf}
 use Rattle.table.proofs.Admitted.{tabled-refused, tabled-done}
 use Rattle.plane.specs.Machine.{tickAt, movedOf, arrivedOf}
-use Rattle.plane.specs.View.{view, Sized}
+use Rattle.plane.specs.View.{tasksAt, view, Sized}
 use Rattle.holding.specs.Holds.{holdsOf}
 use Rattle.holding.proofs.Holding.{holding-says}
 use Rattle.whole.specs.Fresh.{freshState}
@@ -39,12 +42,12 @@ use Rattle.whole.proofs.Fresh.{fresh-view, fresh-sound, fresh-whole}
 use Rattle.whole.proofs.Keeping.{sized-by}
 use Rattle.calls.specs.Admit.{blankState, admitOf}
 use Rattle.calls.specs.Arrive.{taskIn, wholeTick, soonAgain, arriveAnswerOf, arriveOf}
-use Rattle.calls.specs.Demands.{Calls, OneOf, callingAll, starting}
+use Rattle.calls.specs.Demands.{OneOf, callingAll, starting, seen}
 use Rattle.calls.specs.Run.{went, runOf, runRoom}
 use Rattle.calls.specs.Step.{movesAnswer, stepAnswerOf, stepOf, stepRoom}
 use Rattle.calls.proofs.Refining.{arrives, holds-whole, whole-holds, step-same}
 use Rattle.calls.proofs.Runs.{run-steps}
-use Rattle.calls.proofs.Serving.{Followed, plain, all-together, calls-followed, serves}
+use Rattle.calls.proofs.Serving.{Followed, plain, all-together, calls-followed, seen-good, taken-in}
 use Rattle.calls.proofs.Went.{went-whole}
 
 -- DONE OR NOT
@@ -79,22 +82,46 @@ admits bytes m = record {
 }
 
 -- DEMAND 3
-start-followed : (bytes : List ℕ) (m : ℕ) → admitOf bytes m .answer ≡ Done → Followed (starting bytes m)
+start-followed : (bytes : List ℕ) (m : ℕ) → admitOf bytes m .answer ≡ Done → Followed (rowsOf bytes) (starting bytes m)
 start-followed bytes m d =
     let w = admit-whole bytes m d in
-    (Rule.starting (admit bytes m .state), record { whole = w .0; same = w .1; records = refl }, start-good bytes m (sym (answer-same bytes m .0) ∙ d))
+    (Rule.starting (admit bytes m .state), record { whole = w .0; same = w .1; records = refl; arrivals = refl }, start-good bytes m (sym (answer-same bytes m .0) ∙ d))
+
+calls-good : (bytes : List ℕ) (m : ℕ) → admitOf bytes m .answer ≡ Done → (cs : List Say.Call) → Good (rowsOf bytes) (seen (callingAll (starting bytes m) cs))
+calls-good bytes m d cs = seen-good (rowsOf bytes) (callingAll (starting bytes m) cs) (calls-followed (rowsOf bytes) cs (starting bytes m) (start-followed bytes m d))
+
+arrive-13 : (s : State) (task : ℕ) → holdsOf s ≡ false → arriveOf s task .answer ≡ NotTogether
+unfolding arriveOf arriveAnswerOf
+arrive-13 s task e = rw e
+
+-- an arrival is taken only from a state that holds together
+taken-holds : (s : State) (task : ℕ) → arriveOf s task .answer ≡ Done → holdsOf s ≡ true
+taken-holds s task d = go (holdsOf s) refl
+  where
+    go : (b : Bool) → holdsOf s ≡ b → b ≡ true
+    go true e = refl
+    go false e = let z : Done ≡ NotTogether = sym d ∙ arrive-13 s task e in let y : _≡_ {A = ℕ} 0 13 = ap numberOf z in absurd (omega arith)
 
 pub demand-3 : Say.Demand3
-demand-3 bytes m d cs =
-    let F = calls-followed cs (starting bytes m) (start-followed bytes m d) in
-    serves (callingAll (starting bytes m) cs) (F .0) (F .1) (F .2)
+demand-3 = record {
+  jobs = λ bytes m d before task a later.
+      let h = callingAll (starting bytes m) (before ++ Say.arriveCall task ∷ later) in
+      job-of (rowsOf bytes) (seen h) (calls-good bytes m d (before ++ Say.arriveCall task ∷ later)) _ (taken-in (starting bytes m) before task a later);
+  courses = λ bytes m d calls. course-of (rowsOf bytes) (seen (callingAll (starting bytes m) calls)) (calls-good bytes m d calls);
+  others = others;
+}
+  where
+    others : (s : State) (task : ℕ) → Sized s → arriveOf s task .answer ≡ Done → (j : ℕ) → suc j ≢ task → Untouched (Rules.at j (tasksAt s)) (Rules.at j (tasksAt (arriveOf s task .state)))
+    others s task z d j n =
+        let a = arrives s task z (taken-holds s task d) in
+        subst (λ (x : Rules.State). Untouched (Rules.at j (tasksAt s)) (Rules.at j (x .tasks))) (sym (a .state)) (others-stay (view s) task (sym (a .answer) ∙ d) j n)
 
 -- arrivals and steps hand out the rules' records
 records-same : (bytes : List ℕ) (m : ℕ) → admitOf bytes m .answer ≡ Done → (cs : List Rule.Call) → callingAll (starting bytes m) (map plain cs) .records ≡ Rule.runOf bytes m cs .records
 unfolding Rule.runOf
 records-same bytes m d cs =
     let w = admit-whole bytes m d in
-    all-together cs (starting bytes m) (Rule.starting (admit bytes m .state)) (record { whole = w .0; same = w .1; records = refl }) .records
+    all-together cs (starting bytes m) (Rule.starting (admit bytes m .state)) (record { whole = w .0; same = w .1; records = refl; arrivals = refl }) .records
 
 -- P1's table is admitted
 admitted-P1 : admit (tableBytes tableP1) 2 .answer ≡ Done
@@ -115,10 +142,6 @@ met =
 
 -- DEMAND 2
 -- 13, and nothing else, where the state does not hold together
-arrive-13 : (s : State) (task : ℕ) → holdsOf s ≡ false → arriveOf s task .answer ≡ NotTogether
-unfolding arriveOf arriveAnswerOf
-arrive-13 s task e = rw e
-
 moves-13 : (s : State) (h n : ℕ) → holdsOf s ≡ false → stepAnswerOf s h n ≡ NotTogether
 unfolding stepAnswerOf
 moves-13 s h n e = rw e

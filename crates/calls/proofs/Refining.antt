@@ -21,7 +21,7 @@ use Rattle.rules.specs.Reasons.{ArriveReason, StepReason}
 use Rattle.rules.specs.Record.{Record, recordBytes}
 use Rattle.rules.specs.State.{Task, at}
 use Rattle.rules.proofs.Calls.{Comes}
-use Rattle.rules.proofs.Demands.{done-comes, by-answer}
+use Rattle.rules.proofs.Jobs.{done-comes, by-answer}
 use Rattle.rules.proofs.Holding.{holds-says}
 use Rattle.rules.proofs.Refusing.{arrive-answers, step-answers}
 use Rattle.plane.specs.Machine.{tickAt, movedOf, arrivedOf}

@@ -14,9 +14,10 @@ use Rattle.calls.specs.declared.Stepped.{Stepped}
 use Rattle.ground.specs.Tests.{if_then_else_, Says}
 use Rattle.ground.proofs.Tests.{ltb-says}
 use Rattle.rules.specs.Answers.{isDone}
+use Rattle.rules.specs.Run.{Arrival}
 use Rattle.rules.specs.Record.{Record, recordBytes, readRecord}
 use Rattle.rules.specs.Reasons.{StepReason}
-use Rattle.rules.proofs.Demands.{by-answer}
+use Rattle.rules.proofs.Jobs.{by-answer}
 use Rattle.rules.proofs.Refusing.{step-exact, step-answers}
 use Rattle.plane.specs.Machine.{movedOf}
 use Rattle.plane.specs.View.{view}
@@ -72,14 +73,14 @@ run-steps (suc n) h s W hc = go (ltb (s .now .0) (h * s .table .scale)) (ltb-say
     go false q ih = rw (answer HorizonNotLater (behind s h W hc q))
 
 -- THE RECORDS
-abbrev at : State → List Record → Calls
-at s rs = record { state = s; records = rs }
+abbrev at : List Arrival → State → List Record → Calls
+at xs s rs = record { state = s; records = rs; arrivals = xs }
 
 -- a step with room for one record
-one-called : (s : State) (h : ℕ) (rs : List Record) → stepAnswerOf s h 48 ≡ Done
-    → calling (at s rs) (oneStep h) ≡ at (movedOf s h .state) (rs ++ (readRecord (recordBytes (movedOf s h .rec)) ∷ []))
+one-called : (xs : List Arrival) (s : State) (h : ℕ) (rs : List Record) → stepAnswerOf s h 48 ≡ Done
+    → calling (at xs s rs) (oneStep h) ≡ at xs (movedOf s h .state) (rs ++ (readRecord (recordBytes (movedOf s h .rec)) ∷ []))
 unfolding calling stepOf
-one-called s h rs d =
+one-called xs s h rs d =
     let n : length (replicate {A = ℕ} 48 0) ≡ 48 = length-replicate {A = ℕ} 48 0 in
     rw (n, d, full-room s h d)
 
@@ -91,31 +92,31 @@ read-more n b l rest rs e =
     append-assoc rs (readRecord b ∷ []) (readRecords n (l ++ rest))
     ∙ rw (append-assoc b l rest, take-at b (l ++ rest) 48 e, drop-at b (l ++ rest) 48 e)
 
-abbrev Called : ℕ → ℕ → State → List Record → List ℕ → Type 0
-Called n h s rs rest = callingAll (at s rs) (replicate (went n h s .records) (oneStep h)) ≡ at (went n h s .state) (rs ++ readRecords (went n h s .records) (went n h s .bytes ++ rest))
+abbrev Called : List Arrival → ℕ → ℕ → State → List Record → List ℕ → Type 0
+Called xs n h s rs rest = callingAll (at xs s rs) (replicate (went n h s .records) (oneStep h)) ≡ at xs (went n h s .state) (rs ++ readRecords (went n h s .records) (went n h s .bytes ++ rest))
 
-called-none : (n h : ℕ) (s : State) (rs : List Record) (rest : List ℕ) → goesOn n (s .now .0) (h * s .table .scale) ≡ false → Called n h s rs rest
+called-none : (xs : List Arrival) (n h : ℕ) (s : State) (rs : List Record) (rest : List ℕ) → goesOn n (s .now .0) (h * s .table .scale) ≡ false → Called xs n h s rs rest
 unfolding callingAll readRecords
-called-none n h s rs rest e = rw (went-none n h s e, append-nil rs)
+called-none xs n h s rs rest e = rw (went-none n h s e, append-nil rs)
 
-called-more : (n h : ℕ) (s : State) (rs : List Record) (rest : List ℕ) → Whole s → h ≤ 4294967295 → s .now .0 < h * s .table .scale
-    → Called n h (movedOf s h .state) (rs ++ (readRecord (recordBytes (movedOf s h .rec)) ∷ [])) rest → Called (suc n) h s rs rest
+called-more : (xs : List Arrival) (n h : ℕ) (s : State) (rs : List Record) (rest : List ℕ) → Whole s → h ≤ 4294967295 → s .now .0 < h * s .table .scale
+    → Called xs n h (movedOf s h .state) (rs ++ (readRecord (recordBytes (movedOf s h .rec)) ∷ [])) rest → Called xs (suc n) h s rs rest
 unfolding callingAll
-called-more n h s rs rest W hc lt ih =
+called-more xs n h s rs rest W hc lt ih =
     let x = went n h (movedOf s h .state) in
     let b = recordBytes (movedOf s h .rec) in
     rw (went-more n h s lt)
-    (ap (λ (c : Calls). callingAll c (replicate (x .records) (oneStep h))) (one-called s h rs (ahead s h W hc lt))
-    ∙ ih ∙ ap (at (x .state)) (read-more (x .records) b (x .bytes) rest rs (record-48 s h W)))
+    (ap (λ (c : Calls). callingAll c (replicate (x .records) (oneStep h))) (one-called xs s h rs (ahead s h W hc lt))
+    ∙ ih ∙ ap (at xs (x .state)) (read-more (x .records) b (x .bytes) rest rs (record-48 s h W)))
 
-went-called : (n h : ℕ) (s : State) (rs : List Record) (rest : List ℕ) → Whole s → h ≤ 4294967295 → Called n h s rs rest
-went-called zero h s rs rest W hc = called-none zero h s rs rest (goes-none (s .now .0) (h * s .table .scale))
-went-called (suc n) h s rs rest W hc =
+went-called : (xs : List Arrival) (n h : ℕ) (s : State) (rs : List Record) (rest : List ℕ) → Whole s → h ≤ 4294967295 → Called xs n h s rs rest
+went-called xs zero h s rs rest W hc = called-none xs zero h s rs rest (goes-none (s .now .0) (h * s .table .scale))
+went-called xs (suc n) h s rs rest W hc =
     by-going _ (suc n) h s
     (λ e.
     let lt = goes-more (suc n) (s .now .0) (h * s .table .scale) e .1 in
-    called-more n h s rs rest W hc lt (went-called n h (movedOf s h .state) (rs ++ (readRecord (recordBytes (movedOf s h .rec)) ∷ [])) rest (step-whole s h W lt hc .whole) hc))
-    (λ e. called-none (suc n) h s rs rest e)
+    called-more xs n h s rs rest W hc lt (went-called xs n h (movedOf s h .state) (rs ++ (readRecord (recordBytes (movedOf s h .rec)) ∷ [])) rest (step-whole s h W lt hc .whole) hc))
+    (λ e. called-none xs (suc n) h s rs rest e)
 
 -- a run hands out the records of as many steps
 pub run-called : (r : Calls) (h : ℕ) (room : List ℕ) → Whole (r .state)
@@ -127,5 +128,5 @@ run-called r h room W =
     (λ d.
     let R = subst (StepReason (view s) h (length room)) (sym (step-same s h (length room) W) ∙ d) (step-answers (view s) h (length room)) in
     let b = went (length room / 48) h s .bytes in
-    rw d (sym (went-called (length room / 48) h s (r .records) (drop (length b) room) W (R .2))))
-    (λ e. rw e (ap (at s) (append-nil (r .records))))
+    rw d (sym (went-called (r .arrivals) (length room / 48) h s (r .records) (drop (length b) room) W (R .2))))
+    (λ e. rw e (ap (at (r .arrivals) s) (append-nil (r .records))))

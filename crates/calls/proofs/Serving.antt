@@ -1,43 +1,31 @@
 -- Demand 3 of the calls: their run is the rules' run, seen through the view
 use mathlib.Core.Path.{_≡_, refl, sym, _∙_, ap, subst}
 use mathlib.Core.Bool.{Bool, true, false}
-use mathlib.Core.Option.{Option, none, some}
+use mathlib.Core.Option.{some}
+use mathlib.Core.Logic.{inl, inr}
 use mathlib.Core.List.{List, [], _∷_, _++_, map}
-use Prim.Native.Nat.{ℕ, zero, suc, _+_, _*_, _-_, _≤_, _<_}
-use native.Mathlib.Omega.{arith}
-use lib.ListN.{length, getD, replicate}
+use Prim.Native.Nat.{ℕ, zero, suc}
+use lib.ListN.{length, replicate}
 use Rattle.rules.specs.declared.Answer.{Answer}
 use Rattle.rules.specs.declared.Answer.the-variants.{Done}
-use Rattle.table.specs.declared.Table.{Table}
 use Rattle.plane.specs.declared.State.{State}
-use Rattle.calls.specs.declared.Arrived.{Arrived}
-use Rattle.calls.specs.declared.Stepped.{Stepped}
 use Rattle.rules.specs.State as Rules
 use Rattle.rules.specs.Calls as Rule
 use Rattle.rules.specs.Run as Runs
 use Rattle.ground.specs.Tests.{if_then_else_}
 use Rattle.rules.specs.Answers.{isDone}
-use Rattle.rules.specs.Demands.{ran, Once, Follows}
-use Rattle.rules.specs.Planes.{opened}
-use Rattle.rules.specs.Reasons.{StepReason}
 use Rattle.rules.specs.Record.{Record, readRecord}
 use Rattle.rules.specs.Run.{perform, perform-all}
-use Rattle.rules.specs.State.{Task, at, short, isAwake}
-use Rattle.rules.specs.Table.{Row, shorter}
-use Rattle.rules.specs.Together.{Awake}
-use Rattle.rules.proofs.Calls.{opened-same, moving-moves}
-use Rattle.rules.proofs.Demands.{Good, perform-good, step-serves}
-use Rattle.rules.proofs.Refusing.{step-answers}
-use Rattle.plane.specs.Machine.{shorterAt}
-use Rattle.plane.specs.View.{taskAt, planeOf, view}
-use Rattle.plane.proofs.Passing.{awake-at}
-use Rattle.plane.proofs.Views.{sound-is}
-use Rattle.calls.specs.Demands.{Call, arriveCall, stepCall, runCall, Served, Calls, calling, callingAll, oneStep, Serves}
+use Rattle.rules.specs.Table.{Row}
+use Rattle.rules.proofs.Jobs.{In, Good, perform-good}
+use Rattle.plane.specs.Machine.{tickAt}
+use Rattle.plane.specs.View.{view}
+use Rattle.calls.specs.Demands.{Call, arriveCall, stepCall, runCall, Calls, calling, callingAll, seen, oneStep}
+use Rattle.calls.specs.Arrive.{arriveOf}
 use Rattle.calls.specs.Step.{stepOf, stepRoom}
 use Rattle.calls.specs.Run.{runOf}
 use Rattle.whole.specs.Whole.{Whole}
-use Rattle.whole.proofs.Keeping.{task-at}
-use Rattle.calls.proofs.Refining.{step-same, arrive-kept, step-kept}
+use Rattle.calls.proofs.Refining.{arrive-same, step-same, arrive-kept, step-kept}
 use Rattle.calls.proofs.Runs.{run-called}
 
 -- THE TWO RUNS GO TOGETHER
@@ -45,12 +33,27 @@ pub record Together-run (r : Calls) (q : Runs.Run) : Type 0 where
   pub whole : Whole (r .state)
   pub same : view (r .state) ≡ q .state
   pub records : r .records ≡ q .records
+  pub arrivals : r .arrivals ≡ q .arrivals
 
 arrive-together : (r : Calls) (q : Runs.Run) (task : ℕ) → Together-run r q → Together-run (calling r (arriveCall task)) (perform q (Runs.arriveCall task))
 unfolding calling perform
 arrive-together r q task T =
-    let K = arrive-kept (r .state) task (T .whole) in
-    record { whole = K .whole; same = K .same ∙ ap (λ (x : Rules.State). Rule.arrive x task .state) (T .same); records = T .records }
+    let s = r .state in
+    let K = arrive-kept s task (T .whole) in
+    let a : arriveOf s task .answer ≡ Rule.arrive (q .state) task .answer = answers s task (T .whole) ∙ ap (λ (x : Rules.State). Rule.arrive x task .answer) (T .same) in
+    record {
+      whole = K .whole;
+      same = K .same ∙ ap (λ (x : Rules.State). Rule.arrive x task .state) (T .same);
+      records = T .records;
+      arrivals = more (arriveOf s task .answer) (Rule.arrive (q .state) task .answer) (r .arrivals) (q .arrivals) (tickAt s) (Rules.tickOf (q .state)) a (T .arrivals) (ap Rules.tickOf (T .same));
+    }
+  where
+    answers : (s : State) (task : ℕ) → Whole s → arriveOf s task .answer ≡ Rule.arrive (view s) task .answer
+    answers s task W = unfold arriveOf Rule.arrive in (arrive-same s task W)
+
+    more : (x y : Answer) (xs ys : List Runs.Arrival) (t u : ℕ) → x ≡ y → xs ≡ ys → t ≡ u
+        → (if isDone x then record { task = task; tick = t } ∷ xs else xs) ≡ (if isDone y then record { task = task; tick = u } ∷ ys else ys)
+    more x y xs ys t u e f g = rw (e, f, g)
 
 step-together : (r : Calls) (q : Runs.Run) (h : ℕ) (room : List ℕ) → Together-run r q → Together-run (calling r (stepCall h room)) (perform q (Runs.stepCall h room))
 unfolding calling perform
@@ -63,6 +66,7 @@ step-together r q h room T =
       whole = K .kept .whole;
       same = K .kept .same ∙ ap (λ (x : Rules.State). Rule.step x h room .state) (T .same);
       records = more (stepOf s h (length room) .answer) (Rule.step (q .state) h room .answer) (r .records) (q .records) (stepRoom s h room) (Rule.step (q .state) h room .room) a (T .records) b;
+      arrivals = T .arrivals;
     }
   where
     answers : (s : State) (h : ℕ) (room : List ℕ) → Whole s → stepOf s h (length room) .answer ≡ Rule.step (view s) h room .answer
@@ -87,106 +91,68 @@ all-together [] r q T = T
 all-together (c ∷ cs) r q T = all-together cs (calling r (plain c)) (perform q c) (plain-together r q c T)
 
 -- some run of the rules goes with the calls, and it is good
-abbrev pub Followed : Calls → Type 0
-Followed r = (q : Runs.Run) × Together-run r q × Good q
+abbrev pub Followed : List Row → Calls → Type 0
+Followed rows r = (q : Runs.Run) × Together-run r q × Good rows q
 
-step-followed : (r : Calls) (h : ℕ) (room : List ℕ) → Followed r → Followed (calling r (stepCall h room))
-step-followed r h room F = (perform (F .0) (Runs.stepCall h room), step-together r (F .0) h room (F .1), perform-good (F .0) (Runs.stepCall h room) (F .2))
+module _ (rows : List Row) where
+  step-followed : (r : Calls) (h : ℕ) (room : List ℕ) → Followed rows r → Followed rows (calling r (stepCall h room))
+  step-followed r h room F = (perform (F .0) (Runs.stepCall h room), step-together r (F .0) h room (F .1), perform-good rows (F .0) (Runs.stepCall h room) (F .2))
 
-steps-followed : (n h : ℕ) (r : Calls) → Followed r → Followed (callingAll r (replicate n (oneStep h)))
-unfolding callingAll
-steps-followed zero h r F = F
-steps-followed (suc n) h r F = steps-followed n h (calling r (oneStep h)) (step-followed r h (replicate 48 0) F)
+  steps-followed : (n h : ℕ) (r : Calls) → Followed rows r → Followed rows (callingAll r (replicate n (oneStep h)))
+  unfolding callingAll
+  steps-followed zero h r F = F
+  steps-followed (suc n) h r F = steps-followed n h (calling r (oneStep h)) (step-followed r h (replicate 48 0) F)
 
-call-followed : (r : Calls) (c : Call) → Followed r → Followed (calling r c)
-call-followed r (arriveCall task) F = (perform (F .0) (Runs.arriveCall task), arrive-together r (F .0) task (F .1), perform-good (F .0) (Runs.arriveCall task) (F .2))
-call-followed r (stepCall h room) F = step-followed r h room F
-call-followed r (runCall h room) F = subst Followed (sym (run-called r h room (F .1 .whole))) (steps-followed (runOf (r .state) h (length room) .records) h r F)
+  call-followed : (r : Calls) (c : Call) → Followed rows r → Followed rows (calling r c)
+  call-followed r (arriveCall task) F = (perform (F .0) (Runs.arriveCall task), arrive-together r (F .0) task (F .1), perform-good rows (F .0) (Runs.arriveCall task) (F .2))
+  call-followed r (stepCall h room) F = step-followed r h room F
+  call-followed r (runCall h room) F =
+      subst (Followed rows) (sym (run-called r h room (F .1 .whole))) (steps-followed (runOf (r .state) h (length room) .records) h r F)
 
-pub calls-followed : (cs : List Call) (r : Calls) → Followed r → Followed (callingAll r cs)
-unfolding callingAll
-calls-followed [] r F = F
-calls-followed (c ∷ cs) r F = calls-followed cs (calling r c) (call-followed r c F)
+  pub calls-followed : (cs : List Call) (r : Calls) → Followed rows r → Followed rows (callingAll r cs)
+  unfolding callingAll
+  calls-followed [] r F = F
+  calls-followed (c ∷ cs) r F = calls-followed cs (calling r c) (call-followed r c F)
 
--- WHAT THE RULES SERVE THE CALLS SERVE
-closed-plane : (s : State) → s .going ≡ false → planeOf s ≡ none
-closed-plane s e = ap (λ b. if b then some (s .end) else none) e
-
-plane-closed : (s : State) → planeOf s ≡ none → s .going ≡ false
-plane-closed s = go (s .going)
-  where
-    go : (b : Bool) → (if b then some (s .end) else none) ≡ none → b ≡ false
-    go true e = let z : _≡_ {A = ℕ} 0 1 = cc in absurd (omega arith)
-    go false e = refl
-
-module _ (r : Calls) (q : Runs.Run) (T : Together-run r q) (G : Good q) where
-  abbrev s : State
-  s = r .state
-
-  serve : (h : ℕ) (room : List ℕ) → stepOf (r .state) h (length room) .answer ≡ Done → (j : ℕ) → j < r .state .table .count → getD (r .state .jobs .awake) j false ≡ true
-      → Served (r .state) (stepOf (r .state) h (length room) .state) j (calling r (stepCall h room) .records)
-  serve h room d j hj up =
-      let T′ = step-together r q h room T in
-      let x = stepOf s h (length room) .state in
-      let after = Rule.step (q .state) h room .state in
-      let xa : view x ≡ after = T′-same T′ in
-      let rs = calling r (stepCall h room) .records in
-      let H = G .together in
-      let R = opened-same (q .state) H j in
-      let here : at j (q .state .tasks) ≡ taskAt s j = ap (λ (y : Rules.State). at j (y .tasks)) (sym (T .same)) ∙ task-at s j hj in
-      let t = at j (opened (q .state) .tasks) in
-      let last : t .last ≡ getD (s .jobs .last) j 0 = R .last ∙ ap (λ (u : Task). u .last) here in
-      let exec : t .row .exec ≡ getD (s .table .exec) j 0 = ap (λ (y : Row). y .exec) (R .row) ∙ ap (λ (u : Task). u .row .exec) here in
-      let q′ : short t ≡ shorterAt (s .table) j = ap shorter (R .row) ∙ ap (λ (u : Task). shorter (u .row)) here in
-      let aw : Awake t = R .awake ∙ ap (λ (u : Task). isAwake (u .cond)) here ∙ awake-cond s (T .whole) j hj up in
-      let a : Rule.step (q .state) h room .answer ≡ Done = sym (answers s h room (T .whole) ∙ ap (λ (y : Rules.State). Rule.step y h room .answer) (T .same)) ∙ d in
-      let served = step-serves q G h room a j aw in
-      let scale : after .scale ≡ s .table .scale = scale-kept h room a ∙ ap (λ (y : Rules.State). y .scale) (sym (T .same)) in
-      let now′ : after .now ≡ x .now .0 = ap (λ (y : Rules.State). y .now) (sym xa) in
-      let books : perform q (Runs.stepCall h room) .records ≡ rs = sym (T′ .records) in
-      let ran-is : ran (suc j) (t .last * after .scale) (perform q (Runs.stepCall h room) .records) ≡ ran (suc j) (getD (s .jobs .last) j 0 * s .table .scale) rs =
-      ap (λ (y : List Record). ran (suc j) (t .last * after .scale) y) books ∙ ap (λ n. ran (suc j) n rs) (ap (λ n. n * after .scale) last ∙ ap (λ n. getD (s .jobs .last) j 0 * n) scale) in
-      let plane : x .going ≡ false → after .plane ≡ none = λ g. ap (λ (y : Rules.State). y .plane) (sym xa) ∙ closed-plane x g in
-      record {
-        exact = λ g.
-            let E = served .exact (plane g) in (
-              E .0,
-              sym now′ ∙ E .1 ∙ ap (λ n. E .0 * n) scale,
-              omega (arith, E .2, last),
-              ap (λ n. n * shorterAt (s .table) j) (sym ran-is) ∙ ap (λ n. ran (suc j) (t .last * after .scale) (perform q (Runs.stepCall h room) .records) * n) (sym q′) ∙ E .3
-                  ∙ exact-side (t .row .exec) (getD (s .table .exec) j 0) (after .scale) (s .table .scale) (t .last) (getD (s .jobs .last) j 0) (E .0) exec scale last,
-            );
-        in-time = limit-side (after .now) (x .now .0) (t .last) (getD (s .jobs .last) j 0) (short t) (shorterAt (s .table) j) (after .scale) (s .table .scale) now′ last q′ scale (served .in-time);
-        whole = λ z.
-            let W = served .whole (reached (after .now) (x .now .0) (t .last) (getD (s .jobs .last) j 0) (short t) (shorterAt (s .table) j) (after .scale) (s .table .scale) now′ last q′ scale z) in
-            (plane-closed x (ap (λ (y : Rules.State). y .plane) xa ∙ W .0), sym ran-is ∙ W .1 ∙ ap (λ n. n * after .scale) exec ∙ ap (λ n. getD (s .table .exec) j 0 * n) scale);
-      }
+  -- what the rules serve the calls serve
+  pub seen-good : (r : Calls) → Followed rows r → Good rows (seen r)
+  seen-good r F = subst (Good rows) (sym (same (F .1 .same) (F .1 .records) (F .1 .arrivals))) (F .2)
     where
-      T′-same : Together-run (calling r (stepCall h room)) (perform q (Runs.stepCall h room)) → view (stepOf (r .state) h (length room) .state) ≡ Rule.step (q .state) h room .state
-      T′-same T′ = unfold calling perform in (T′ .same)
+      same : {a b : Rules.State} {rs qs : List Record} {xs ys : List Runs.Arrival} → a ≡ b → rs ≡ qs → xs ≡ ys
+          → _≡_ {A = Runs.Run} (record { state = a; records = rs; arrivals = xs }) (record { state = b; records = qs; arrivals = ys })
+      same p q r = rw (p, q, r)
 
-      answers : (s : State) (h : ℕ) (room : List ℕ) → Whole s → stepOf s h (length room) .answer ≡ Rule.step (view s) h room .answer
-      answers s h room W = unfold stepOf Rule.step in (step-same s h (length room) W)
+-- an arrival once taken stays among the arrivals
+still-in : (x : Runs.Arrival) (r : Calls) (c : Call) → In x (r .arrivals) → In x (calling r c .arrivals)
+unfolding calling
+still-in x r (stepCall h room) i = i
+still-in x r (runCall h room) i = i
+still-in x r (arriveCall task) i = go (isDone (arriveOf (r .state) task .answer))
+  where
+    go : (b : Bool) → In x (if b then record { task = task; tick = tickAt (r .state) } ∷ r .arrivals else r .arrivals)
+    go true = inr i
+    go false = i
 
-      awake-cond : (s : State) → Whole s → (j : ℕ) → j < s .table .count → getD (s .jobs .awake) j false ≡ true → isAwake (taskAt s j .cond) ≡ true
-      awake-cond s W j hj up = ap (λ (u : Task). isAwake (u .cond)) (sym (task-at s j hj)) ∙ awake-at (sound-is s (W .sound)) j hj ∙ up
+all-in : (x : Runs.Arrival) (cs : List Call) (r : Calls) → In x (r .arrivals) → In x (callingAll r cs .arrivals)
+unfolding callingAll
+all-in x [] r i = i
+all-in x (c ∷ cs) r i = all-in x cs (calling r c) (still-in x r c i)
 
-      scale-kept : (h : ℕ) (room : List ℕ) → Rule.step (q .state) h room .answer ≡ Done → Rule.step (q .state) h room .state .scale ≡ q .state .scale
-      scale-kept h room a = unfold Rule.step in (rw a (moving-moves (q .state) h (G .together) (subst (StepReason (q .state) h (length room)) a (step-answers (q .state) h (length room)) .3) .same-scale))
+all-split : (cs ds : List Call) (r : Calls) → callingAll r (cs ++ ds) ≡ callingAll (callingAll r cs) ds
+unfolding callingAll
+all-split [] ds r = refl
+all-split (c ∷ cs) ds r = all-split cs ds (calling r c)
 
-      exact-side : (e e′ l l′ b b′ n : ℕ) → e ≡ e′ → l ≡ l′ → b ≡ b′ → e * l * (n - b) ≡ e′ * l′ * (n - b′)
-      exact-side e e′ l l′ b b′ n p q r = rw (p, q, r)
+pub taken-in : (start : Calls) (before : List Call) (task : ℕ) → arriveOf (callingAll start before .state) task .answer ≡ Done → (later : List Call)
+    → In (record { task = task; tick = tickAt (callingAll start before .state) }) (callingAll start (before ++ arriveCall task ∷ later) .arrivals)
+taken-in start before task d later =
+    subst (λ (r : Calls). In x (r .arrivals)) (sym (all-split before (arriveCall task ∷ later) start)) (unfold callingAll in (all-in x later (calling r (arriveCall task)) here))
+  where
+    r : Calls
+    r = callingAll start before
 
-      limit-side : (n n′ b b′ k k′ l l′ : ℕ) → n ≡ n′ → b ≡ b′ → k ≡ k′ → l ≡ l′ → n ≤ (b + k) * l → n′ ≤ (b′ + k′) * l′
-      limit-side n n′ b b′ k k′ l l′ p q r t h = rw (← p, ← q, ← r, ← t) h
+    x : Runs.Arrival
+    x = record { task = task; tick = tickAt (callingAll start before .state) }
 
-      reached : (n n′ b b′ k k′ l l′ : ℕ) → n ≡ n′ → b ≡ b′ → k ≡ k′ → l ≡ l′ → n′ ≡ (b′ + k′) * l′ → n ≡ (b + k) * l
-      reached n n′ b b′ k k′ l l′ p q r t h = rw (p, q, r, t) h
-
-  pub serves : Serves r
-  serves = record {
-    serves = serve;
-    runs = λ h room. run-called r h room (T .whole);
-    once = subst Once (sym (T .records)) (G .once);
-    follows = rw (T .records, ap (λ (y : Rules.State). y .now) (T .same)) (G .follows);
-  }
+    here : In x (calling (callingAll start before) (arriveCall task) .arrivals)
+    here = unfold calling in (rw d (inl refl))

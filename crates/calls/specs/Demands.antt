@@ -1,23 +1,24 @@
 -- THE DEMANDS, said of the calls
 use mathlib.Core.Path.{_≡_}
-use mathlib.Core.Bool.{Bool, true, false}
-use mathlib.Core.Logic.{_⊎_}
+use mathlib.Core.Bool.{true, false}
+use mathlib.Core.Logic.{_≢_, _⊎_}
 use mathlib.Core.List.{List, [], _∷_, _++_, foldl, map}
-use Prim.Native.Nat.{ℕ, zero, suc, _+_, _*_, _-_, _/_, _≤_, _<_}
-use lib.ListN.{length, getD, take, drop, replicate}
+use Prim.Native.Nat.{ℕ, zero, suc, _/_}
+use lib.ListN.{length, take, drop, replicate}
 use Rattle.ground.specs.Tests.{if_then_else_, Says}
-use Rattle.rules.specs.Table.{tableBytes}
-use Rattle.rules.specs.declared.Answer.{Answer}
+use Rattle.rules.specs.Table.{rowsOf, tableBytes}
+use Rattle.rules.specs.State.{at}
 use Rattle.rules.specs.declared.Answer.the-variants.{Done, NotTogether}
 use Rattle.rules.specs.Answers.{isDone, numberOf}
 use Rattle.rules.specs.Admission.{admit}
 use Rattle.rules.specs.Record.{Record, readRecord}
 use Rattle.rules.specs.Calls.{arrive, step}
-use Rattle.rules.specs.Demands.{ran, Once, Follows}
+use Rattle.rules.specs.Run.{Arrival, Run}
+use Rattle.rules.specs.Demands.{Job, Course, Untouched}
 use Rattle.rules.specs.Figures.{tableP1, line}
 use Rattle.plane.specs.declared.State.{State}
-use Rattle.plane.specs.Machine.{shorterAt}
-use Rattle.plane.specs.View.{view, Sized}
+use Rattle.plane.specs.Machine.{tickAt}
+use Rattle.plane.specs.View.{tasksAt, view, Sized}
 use Rattle.holding.specs.Holds.{Holding, holdsOf}
 use Rattle.calls.specs.declared.Arrived.{Arrived}
 use Rattle.calls.specs.declared.Stepped.{Stepped}
@@ -95,62 +96,55 @@ unfoldable pub readRecords : ℕ → List ℕ → List Record
 readRecords zero bytes = []
 readRecords (suc n) bytes = readRecord (take 48 bytes) ∷ readRecords n (drop 48 bytes)
 
--- CALLS: each on the state that the last one handed back; the records are read off the bytes handed out
+-- CALLS: each on the state that the last one handed back; the records, oldest first, are read off the bytes handed out; the arrivals are those taken, latest first
 pub record Calls : Type 0 where
   pub state : State
   pub records : List Record
+  pub arrivals : List Arrival
 
 unfoldable pub calling : Calls → Call → Calls
-calling r (arriveCall task) = record { state = arriveOf (r .state) task .state; records = r .records }
+calling r (arriveCall task) =
+    record {
+      state = arriveOf (r .state) task .state;
+      records = r .records;
+      arrivals = if isDone (arriveOf (r .state) task .answer) then record { task = task; tick = tickAt (r .state) } ∷ r .arrivals else r .arrivals;
+    }
 calling r (stepCall horizon room) =
     record {
       state = stepOf (r .state) horizon (length room) .state;
       records = if isDone (stepOf (r .state) horizon (length room) .answer) then r .records ++ (readRecord (stepRoom (r .state) horizon room) ∷ []) else r .records;
+      arrivals = r .arrivals;
     }
 calling r (runCall horizon room) =
     record {
       state = runOf (r .state) horizon (length room) .state;
       records = r .records ++ readRecords (runOf (r .state) horizon (length room) .records) (runRoom (r .state) horizon room);
+      arrivals = r .arrivals;
     }
 
 unfoldable pub callingAll : Calls → List Call → Calls
 callingAll r cs = foldl calling r cs
 
--- DEMAND 3: what a step did for the job of the task in row j, which was awake before it;
--- `after` is the state handed back, rs are all records handed out, this step's among them
-pub record Served (before after : State) (j : ℕ) (rs : List Record) : Type 0 where
-  -- "at every plane end that the clock reaches, each job awake in that plane has run since its arrival
-  -- exactly e times the ticks elapsed, divided by q"
-  pub exact : after .going ≡ false → (end : ℕ) × (after .now .0 ≡ end * before .table .scale) × (getD (before .jobs .last) j 0 ≤ end)
-      × (ran (suc j) (getD (before .jobs .last) j 0 * before .table .scale) rs * shorterAt (before .table) j
-      ≡ getD (before .table .exec) j 0 * before .table .scale * (end - getD (before .jobs .last) j 0))
-  -- the clock cannot pass arrival plus q
-  pub in-time : after .now .0 ≤ (getD (before .jobs .last) j 0 + shorterAt (before .table) j) * before .table .scale
-  -- "So when the clock reaches q after its arrival it has run exactly e ticks", and a plane ends there
-  pub whole : after .now .0 ≡ (getD (before .jobs .last) j 0 + shorterAt (before .table) j) * before .table .scale
-      → (after .going ≡ false) × (ran (suc j) (getD (before .jobs .last) j 0 * before .table .scale) rs ≡ getD (before .table .exec) j 0 * before .table .scale)
+abbrev pub starting : List ℕ → ℕ → Calls
+starting bytes m = record { state = admitOf bytes m .state; records = []; arrivals = [] }
+
+-- the state, the records and the arrivals, as the rules see them
+abbrev pub seen : Calls → Run
+seen r = record { state = view (r .state); records = r .records; arrivals = r .arrivals }
+
+-- DEMAND 3: "Start from any admitted table and make any calls, refused ones among them, each on the state the last one handed back."
+pub record Demand3 : Type 0 where
+  -- any calls, then an arrival that is taken, then any calls: `Job` says what it is given
+  pub jobs : (bytes : List ℕ) (m : ℕ) → admitOf bytes m .answer ≡ Done → (before : List Call) (task : ℕ) → arriveOf (callingAll (starting bytes m) before .state) task .answer ≡ Done → (later : List Call)
+      → Job (rowsOf bytes) (seen (callingAll (starting bytes m) (before ++ arriveCall task ∷ later))) task (tickAt (callingAll (starting bytes m) before .state))
+  -- one processor at an instant, records that follow one another, a record's end at every plane end
+  pub courses : (bytes : List ℕ) (m : ℕ) → admitOf bytes m .answer ≡ Done → (calls : List Call) → Course (rowsOf bytes) (seen (callingAll (starting bytes m) calls))
+  -- an arrival that is taken leaves every other task as it was, but for who has a processor
+  pub others : (s : State) (task : ℕ) → Sized s → arriveOf s task .answer ≡ Done → (j : ℕ) → suc j ≢ task → Untouched (at j (tasksAt s)) (at j (tasksAt (arriveOf s task .state)))
 
 -- a step with room for one record
 abbrev pub oneStep : ℕ → Call
 oneStep horizon = stepCall horizon (replicate 48 0)
-
-pub record Serves (r : Calls) : Type 0 where
-  -- one more step that is not refused serves every job that is awake
-  pub serves : (horizon : ℕ) (room : List ℕ) → stepOf (r .state) horizon (length room) .answer ≡ Done
-      → (j : ℕ) → j < r .state .table .count → getD (r .state .jobs .awake) j false ≡ true
-      → Served (r .state) (stepOf (r .state) horizon (length room) .state) j (calling r (stepCall horizon room) .records)
-  -- one more run is as many steps as it hands out records, so it serves what they serve
-  pub runs : (horizon : ℕ) (room : List ℕ) → calling r (runCall horizon room) ≡ callingAll r (replicate (runOf (r .state) horizon (length room) .records) (oneStep horizon))
-  -- "It never runs on two processors at one instant": in one slot of a record at most, and the records follow one another up to the present
-  pub once : Once (r .records)
-  pub follows : Follows 0 (r .records) (r .state .now .0)
-
--- "Start from any admitted table and make any calls, refused ones among them, each on the state the last one handed back."
-abbrev pub starting : List ℕ → ℕ → Calls
-starting bytes m = record { state = admitOf bytes m .state; records = [] }
-
-abbrev pub Demand3 : Type 0
-Demand3 = (bytes : List ℕ) (m : ℕ) → admitOf bytes m .answer ≡ Done → (calls : List Call) → Serves (callingAll (starting bytes m) calls)
 
 abbrev pub callsP1 : List Call
 callsP1 = arriveCall 1 ∷ arriveCall 2 ∷ arriveCall 3 ∷ arriveCall 4 ∷ oneStep 3 ∷ oneStep 3 ∷ oneStep 3 ∷ oneStep 3 ∷ []

@@ -13,13 +13,13 @@ use lib.ListN.{length}
 use Rattle.ground.specs.Bytes.{le}
 use Rattle.ground.specs.Tests.{Says}
 use Rattle.ground.proofs.Tests.{eqb-says}
-use Rattle.rules.specs.Calls.{lowestIdle, arriveIn, arriving, arrive, Moved, after, moveTo, moveIn, moving}
+use Rattle.rules.specs.Calls.{lowestIdle, wake, arriveIn, arriving, arrive, Moved, after, moveTo, moveIn, moving}
 use Rattle.rules.specs.Events.{nextAt}
 use Rattle.rules.specs.Planes.{endOf, openAt, openCase, opened}
 use Rattle.rules.specs.State.{running, Cond, asleep, resting, waiting, Task, State, at, period, isAwake, tickOf}
 use Rattle.rules.specs.Together.{Awake, Plane, Together}
-use Rattle.rules.proofs.Arriving.{idle-is, wakes-shut, arrives}
-use Rattle.rules.proofs.Events.{Core}
+use Rattle.rules.proofs.Arriving.{idle-is, woken, wake-same, wake-other, wake-size, wake-by, wakes-shut, arrives}
+use Rattle.rules.proofs.Events.{Core, core, Kept, kept-refl}
 use Rattle.rules.proofs.Keeping.{Running, running-stands, runs-on, Resting, closes, ready-by, ready-awake, opens-plane}
 use Rattle.rules.proofs.Time.{Next, next-ok}
 
@@ -34,27 +34,6 @@ open-parts s e H q = record { table = H .table; seats = H .seats; lasts = H .las
 
 pub shut-parts : (s : State) → Together s → s.plane ≡ none → Resting s.m s.scale s.now s.tasks
 shut-parts s H q = record { table = H .table; seats = H .seats; lasts = H .lasts; shut = subst (Plane s) q (H .plane) }
-
--- opening changes neither the row nor the last arrival of a task, nor whether it is awake
-pub record Reopened (l k : List Task) (j : ℕ) : Type 0 where
-  pub row : at j k .row ≡ at j l .row
-  pub last : at j k .last ≡ at j l .last
-  pub awake : isAwake (at j k .cond) ≡ isAwake (at j l .cond)
-
-pub opened-same : (s : State) → Together s → (j : ℕ) → Reopened s.tasks (opened s .tasks) j
-unfolding opened
-opened-same s H j = go s.plane refl
-  where
-    go : (p : Option ℕ) → s.plane ≡ p → Reopened s.tasks (openCase s p .tasks) j
-    go none q = unfold openCase openAt in (
-        let O = opens-plane s.tasks (shut-parts s H q) in
-        let len = endOf (tickOf s) s.tasks - tickOf s in
-        record {
-          row = ap (λ (c : Core). c .row) (O .same j) ∙ ready-by len (λ u. u.row ≡ at j s.tasks .row) (at j s.tasks) refl refl;
-          last = ap (λ (c : Core). c .last) (O .same j) ∙ ready-by len (λ u. u.last ≡ at j s.tasks .last) (at j s.tasks) refl refl;
-          awake = ap (λ (c : Core). c .awake) (O .same j) ∙ ready-awake len (at j s.tasks);
-        })
-    go (some e) q = unfold openCase in (record { row = refl; last = refl; awake = refl })
 
 -- STEP
 -- the instant that a step runs to, in an open plane
@@ -158,3 +137,35 @@ arrive-case s i H C sl (some e) q =
 pub arriving-keeps : (s : State) (i : ℕ) → Together s → Comes s i → Together (arriving s i)
 unfolding arriving
 arriving-keeps s i H C = arrive-case s i H C (comes-asleep s i H C) s.plane refl
+
+-- of the tasks, only the one in place i has come, at this tick, and it is awake
+pub record Takes (i tick : ℕ) (l k : List Task) : Type 0 where
+  pub size : length k ≡ length l
+  pub row : (j : ℕ) → at j k .row ≡ at j l .row
+  pub awake : Awake (at i k)
+  pub arrived : at i k .arrived ≡ true
+  pub last : at i k .last ≡ tick
+  pub others : (j : ℕ) → j ≢ i → core (at j k) ≡ core (at j l)
+
+kept-takes : (i tick : ℕ) (c : Cond) (l k : List Task) → i < length l → isAwake c ≡ true → Kept (wake i tick c l) k → Takes i tick l k
+kept-takes i tick c l k hi up K =
+    let w = wake i tick c l in
+    let here : core (at i k) ≡ core (woken tick c (at i l)) = K .same i ∙ ap core (wake-same i tick c l hi) in
+    record {
+      size = K .size ∙ wake-size i tick c l hi;
+      row = λ j. ap (λ (x : Core). x .row) (K .same j) ∙ wake-by i tick c l hi j (λ t. t.row ≡ at j l .row) (λ q. rw q) (λ _. refl);
+      awake = ap (λ (x : Core). x .awake) here ∙ up;
+      arrived = ap (λ (x : Core). x .arrived) here;
+      last = ap (λ (x : Core). x .last) here;
+      others = λ j n. K .same j ∙ ap core (wake-other i tick c l hi j n);
+    }
+
+pub arriving-takes : (s : State) (i : ℕ) → Together s → Comes s i → Takes i (tickOf s) s.tasks (arriving s i .tasks)
+unfolding arriving arriveIn
+arriving-takes s i H C = go s.plane refl
+  where
+    go : (p : Option ℕ) → s.plane ≡ p → Takes i (tickOf s) s.tasks (arriveIn s (tickOf s) i p)
+    go none q = unfold arriveIn in (kept-takes i (tickOf s) resting s.tasks _ (C .known) refl (kept-refl _))
+    go (some e) q = unfold arriveIn in (
+        let A = arrives i (tickOf s) s.tasks (C .known) (open-parts s e H q) (C .whole) (comes-asleep s i H C) (C .late) s refl refl refl (lowestIdle s.tasks 1 s.m) (idle-is s.tasks 1 s.m) in
+        kept-takes i (tickOf s) (A .cond) s.tasks _ (C .known) (A .awake) (A .kept))

@@ -13,7 +13,7 @@ use lib.ListN.{length, getD, length-map, List·getD-map}
 use Rattle.ground.specs.Bytes.{le}
 use Rattle.ground.specs.Tests.{if_then_else_, Says}
 use Rattle.ground.proofs.Sums.{sumOf-none, sumOf-places}
-use Rattle.ground.proofs.Tests.{eqb-says}
+use Rattle.ground.proofs.Tests.{eqb-says, is-false}
 use Rattle.rules.specs.Calls.{arrive}
 use Rattle.rules.specs.Events.{spend, advance, events}
 use Rattle.rules.specs.Figures.{row}
@@ -56,7 +56,7 @@ alike-trans a b = record {
   awake = λ j w. a .awake j (b .awake j w);
 }
 
-rows-same : (l k : List Task) → length k ≡ length l → ((j : ℕ) → at j k .row ≡ at j l .row) → map (λ (t : Task). t.row) k ≡ map (λ (t : Task). t.row) l
+pub rows-same : (l k : List Task) → length k ≡ length l → ((j : ℕ) → at j k .row ≡ at j l .row) → map (λ (t : Task). t.row) k ≡ map (λ (t : Task). t.row) l
 rows-same [] [] e h = refl
 rows-same [] (y ∷ k) e h = absurd (omega arith)
 rows-same (x ∷ l) [] e h = absurd (omega arith)
@@ -115,6 +115,7 @@ module _ {m scale now e : ℕ} (l : List Task) (P : Running m scale now e l) (to
   -- to an instant before the end
   pub record RunsOn (k : List Task) : Type 0 where
     pub running : Running m scale to e k
+    pub alike : Alike l k
     pub same : (j : ℕ) → core (at j k) ≡ core (be (spend d (at j l .cond)) (at j l))
 
   pub runs-on : to < e * scale → RunsOn (events (e * scale) to (advance d l))
@@ -145,6 +146,7 @@ module _ {m scale now e : ℕ} (l : List Task) (P : Running m scale now e l) (to
                 (P .going .free j (omega (arith, K .size)) (λ v. w (still j v)) t (omega arith) (λ b. omega (arith, a (K .arrived j ∙ b), K .last j, ap (λ (r : Row). r .period) (K .row j))));
           };
         };
+        alike = K;
         same = same;
       }
 
@@ -196,20 +198,30 @@ idle-seats m l h = record {
     not-on p (running p′ a) h = absurd (omega arith)
     not-on p (waiting a) h = refl
 
-pub closes : {m scale now e : ℕ} (l : List Task) → Running m scale now e l → Resting m scale (e * scale) (closed e (advance (e * scale - now) l))
+pub closes-alike : (d e : ℕ) (l : List Task) → Alike l (closed e (advance d l))
 unfolding closed
-closes {m} {scale} {now} {e} l P =
-    let d = e * scale - now in
-    let k = closed e (advance d l) in
+closes-alike d e l =
     let t : ℕ → Task = λ j. be (spend d (at j l .cond)) (at j l) in
-    let K : Alike l k = record {
+    record {
       size = length-map (advance d l) (closeTask e) ∙ length-advance d l;
       row = λ j. rw (at-closed d e j l) (close-by e (λ u. u.row ≡ at j l .row) (t j) refl (λ _ _. refl));
       share = λ j. rw (at-closed d e j l) (close-by e (λ u. u.share ≡ at j l .share) (t j) refl (λ _ _. refl));
       arrived = λ j. rw (at-closed d e j l) (close-by e (λ u. u.arrived ≡ at j l .arrived) (t j) refl (λ _ _. refl));
       last = λ j. rw (at-closed d e j l) (close-by e (λ u. u.last ≡ at j l .last) (t j) refl (λ _ _. refl));
       awake = λ j. rw (at-closed d e j l) (close-by e (λ u. Awake u → Awake (at j l)) (t j) (not-both _) (λ w _ _. sym (still-awake d (at j l .cond)) ∙ w));
-    } in
+    }
+
+-- a task that is awake and not due stays awake
+pub close-stays : (e : ℕ) (t : Task) → Awake t → t.last + short t ≢ e → Awake (closeTask e t)
+close-stays e t w n = rw (w, is-false (eqb (t.last + short t) e) (eqb-says (t.last + short t) e) n) refl
+
+pub closes : {m scale now e : ℕ} (l : List Task) → Running m scale now e l → Resting m scale (e * scale) (closed e (advance (e * scale - now) l))
+unfolding closed
+closes {m} {scale} {now} {e} l P =
+    let d = e * scale - now in
+    let k = closed e (advance d l) in
+    let t : ℕ → Task = λ j. be (spend d (at j l .cond)) (at j l) in
+    let K = closes-alike d e l in
     let pos = facts l (P .table) .scale-pos in
     let tick : e * scale / scale ≡ e = mul-div-cancel e pos in
     let idle : (j : ℕ) → runs (at j k) + waits (at j k) ≡ 0 = λ j. rw (at-closed d e j l) (close-by e (λ u. runs u + waits u ≡ 0) (t j) refl (λ _ _. refl)) in
@@ -278,6 +290,8 @@ module _ {m scale now : ℕ} (l : List Task) (P : Resting m scale now l) where
 
   pub record Opens (k : List Task) : Type 0 where
     pub running : Running m scale now (endOf (now / scale) l) k
+    pub alike : Alike l k
+    pub awake : (j : ℕ) → isAwake (at j k .cond) ≡ isAwake (at j l .cond)
     pub same : (j : ℕ) → core (at j k) ≡ core (ready (endOf (now / scale) l - now / scale) (at j l))
 
   pub opens-plane : Opens (openTasks m (endOf (now / scale) l - now / scale) l)
@@ -323,5 +337,7 @@ module _ {m scale now : ℕ} (l : List Task) (P : Resting m scale now l) where
                 omega (arith, end-le tick l j (omega (arith, K .size)), limit-by (λ n. n ≡ tick + short (at j l)) tick (at j l) (λ v. absurd (w (awake j ∙ v))) (λ _. refl)));
           };
         };
+        alike = K;
+        awake = awake;
         same = O .same;
       }

@@ -16,6 +16,11 @@ pub mod Calls
 pub mod Admitting
 pub mod Holding
 pub mod Refusing
+pub mod Exactly
 pub mod Reading
 pub mod Books
+pub mod Ends
+pub mod Starting
+pub mod Serving
+pub mod Jobs
 pub mod Demands

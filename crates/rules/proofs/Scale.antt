@@ -8,20 +8,13 @@ use native.Mathlib.Omega.{arith}
 use lib.ListN.{length, getD}
 use Rattle.rules.specs.Table.{Row, shorter}
 use Rattle.rules.specs.State.{noRow}
+use Rattle.rules.specs.Exactly.{shortAt, Multiple}
 use Rattle.rules.specs.Scale.{gcd, lcm, scaleFrom, scaleOf, shareOf}
 use Rattle.rules.proofs.Euclid.{gcd-divides-left, gcd-divides-right, gcd-greatest, lcm-left, lcm-right, lcm-positive, lcm-least}
-
--- the q of the row in place i, counted from 0
-abbrev pub shortAt : List Row → ℕ → ℕ
-shortAt rows i = shorter (getD rows i noRow)
 
 -- every q is positive
 abbrev pub Positive : List Row → Type 0
 Positive rows = (i : ℕ) → i < length rows → 0 < shortAt rows i
-
--- c is a multiple of every q
-abbrev pub Multiple : List Row → ℕ → Type 0
-Multiple rows c = (i : ℕ) → i < length rows → shortAt rows i ∣ c
 
 -- ALONG THE ROWS
 pub scale-from-start : (l : ℕ) (rows : List Row) → l ∣ scaleFrom l rows

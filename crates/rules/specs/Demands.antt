@@ -1,57 +1,69 @@
--- DEMAND 3, said of the rules
+-- DEMAND 3, said of a table and of all that was called and handed out
 use mathlib.Core.Path.{_≡_}
-use mathlib.Core.Bool.{Bool, true}
-use mathlib.Core.Option.{Option, none}
-use mathlib.Core.List.{List, [], _∷_}
+use mathlib.Core.List.{List, _∷_, _++_}
+use mathlib.Core.Logic.{_≢_}
 use Prim.Native.Nat.{ℕ, suc, _+_, _*_, _-_, _≤_, _<_}
-use lib.Dec.{leb}
-use lib.ListN.{length}
-use Rattle.ground.specs.Tests.{if_then_else_}
-use Rattle.ground.specs.Sums.{sumOf, times}
+use lib.ListN.{getD}
 use Rattle.rules.specs.declared.Answer.{Answer}
 use Rattle.rules.specs.declared.Answer.the-variants.{Done}
+use Rattle.rules.specs.Table.{Row, rowsOf, shorter}
+use Rattle.rules.specs.Scale.{scaleOf}
 use Rattle.rules.specs.Admission.{Admitted, admit}
-use Rattle.rules.specs.State.{Task, State, at, short}
+use Rattle.rules.specs.State.{Task, State, noRow, at, isAwake, amount, tickOf}
 use Rattle.rules.specs.Together.{Awake}
-use Rattle.rules.specs.Planes.{opened}
 use Rattle.rules.specs.Record.{Record}
-use Rattle.rules.specs.Calls.{Stepped, step}
-use Rattle.rules.specs.Run.{Call, stepCall, Run, perform, runOf}
+use Rattle.rules.specs.Calls.{Arrived, arrive}
+use Rattle.rules.specs.Run.{Call, arriveCall, Run, runOf}
+use Rattle.rules.specs.History.{ran, Once, Follows, EndsAt, planeEnd}
 
--- the sub-ticks for which task n ran in a record that begins at or after the instant `since`
-abbrev pub ranIn : ℕ → ℕ → Record → ℕ
-ranIn n since r = if leb since r.from then times n r.slots * (r.to - r.from) else 0
+-- the k-th plane end is at this tick, and the clock has reached it
+abbrev pub Reached : List Row → Run → ℕ → ℕ → Type 0
+Reached rows h k tick = (planeEnd rows h.arrivals k ≡ tick) × (tick * scaleOf rows ≤ h.state.now)
 
--- "Running time is read off the records handed out."
-unfoldable pub ran : ℕ → ℕ → List Record → ℕ
-ran n since rs = sumOf (ranIn n since) rs
+-- the job of task n that came at the tick a
+module _ (rows : List Row) (h : Run) (n a : ℕ) where
+  abbrev L : ℕ
+  L = scaleOf rows
 
--- "It never runs on two processors at one instant": it is in one slot of a record at most
-abbrev pub Once : List Record → Type 0
-Once [] = Unit {0}
-Once (r ∷ rs) = ((j : ℕ) → times (suc j) r.slots ≤ 1) × Once rs
+  abbrev e : ℕ
+  e = getD rows (n - 1) noRow .exec
 
--- the records follow one another up to the present: each begins at the instant where the last one ended, and ends later
-abbrev pub Follows : ℕ → List Record → ℕ → Type 0
-Follows from [] now = from ≡ now
-Follows from (r ∷ rs) now = (r.from ≡ from) × (r.from < r.to) × Follows r.to rs now
+  abbrev q : ℕ
+  q = shorter (getD rows (n - 1) noRow)
 
--- what a step does to the job of the task in place j that is awake in its plane: t is the task in that plane,
--- after is the state handed back, rs are all records handed out, this step's among them
-pub record Served (t : Task) (j : ℕ) (after : State) (rs : List Record) : Type 0 where
-  -- "at every plane end that the clock reaches, each job awake in that plane has run since its arrival
-  -- exactly e times the ticks elapsed, divided by q": the plane ended at the tick `end`
-  pub exact : after .plane ≡ none → (end : ℕ) × (after .now ≡ end * after .scale) × (t.last ≤ end)
-      × (ran (suc j) (t.last * after .scale) rs * short t ≡ t.row.exec * after .scale * (end - t.last))
-  -- the clock cannot pass arrival plus q
-  pub in-time : after .now ≤ (t.last + short t) * after .scale
-  -- "So when the clock reaches q after its arrival it has run exactly e ticks": and a plane ends there
-  pub whole : after .now ≡ (t.last + short t) * after .scale → (after .plane ≡ none) × (ran (suc j) (t.last * after .scale) rs ≡ t.row.exec * after .scale)
+  pub record Job : Type 0 where
+    -- until q after its arrival it is awake, and no other arrival has taken its place
+    pub awake : h.state.now < (a + q) * L → Awake (at (n - 1) h.state.tasks) × (at (n - 1) h.state.tasks .last ≡ a)
+    -- "at every plane end that the clock reaches, each job awake in that plane has run since its arrival
+    -- exactly e times the ticks elapsed, divided by q"
+    pub exact : (k t : ℕ) → Reached rows h k t → a ≤ t → t ≤ a + q → ran n (a * L) (t * L) h.records * q ≡ e * L * (t - a)
+    -- "So when the clock reaches q after its arrival it has run exactly e ticks"; a record ends there
+    pub whole : (a + q) * L ≤ h.state.now → (ran n (a * L) ((a + q) * L) h.records ≡ e * L) × EndsAt ((a + q) * L) h.records
 
--- "Start from any admitted table and make any calls, refused ones among them": then one more step that is not refused
-abbrev pub Demand3 : Type 0
-Demand3 = (bytes : List ℕ) (m : ℕ) → admit bytes m .answer ≡ Done → (calls : List Call) (horizon : ℕ) (room : List ℕ)
-    → (step (runOf bytes m calls .state) horizon room .answer ≡ Done
-    → (j : ℕ) → Awake (at j (opened (runOf bytes m calls .state) .tasks))
-    → Served (at j (opened (runOf bytes m calls .state) .tasks)) j (step (runOf bytes m calls .state) horizon room .state) (perform (runOf bytes m calls) (stepCall horizon room) .records))
-    × Once (runOf bytes m calls .records) × Follows 0 (runOf bytes m calls .records) (runOf bytes m calls .state .now)
+-- what is true of any calls
+pub record Course (rows : List Row) (h : Run) : Type 0 where
+  -- "It never runs on two processors at one instant"
+  pub once : Once h.records
+  pub follows : Follows 0 h.records h.state.now
+  -- a record ends at every plane end that the clock reaches
+  pub seams : (k t : ℕ) → Reached rows h (suc k) t → EndsAt (t * scaleOf rows) h.records
+
+-- "Start from any admitted table and make any calls, refused ones among them": then an arrival that is taken, then any calls
+pub record Demand3 : Type 0 where
+  pub jobs : (bytes : List ℕ) (m : ℕ) → admit bytes m .answer ≡ Done → (before : List Call) (task : ℕ) → arrive (runOf bytes m before .state) task .answer ≡ Done → (later : List Call)
+      → Job (rowsOf bytes) (runOf bytes m (before ++ arriveCall task ∷ later)) task (tickOf (runOf bytes m before .state))
+  pub courses : (bytes : List ℕ) (m : ℕ) → admit bytes m .answer ≡ Done → (calls : List Call) → Course (rowsOf bytes) (runOf bytes m calls)
+
+-- NOTHING ELSE MOVES
+-- of a task: its row, share and last arrival, whether it is awake, and what it has left
+pub record Untouched (t u : Task) : Type 0 where
+  pub row : u.row ≡ t.row
+  pub share : u.share ≡ t.share
+  pub arrived : u.arrived ≡ t.arrived
+  pub last : u.last ≡ t.last
+  pub awake : isAwake u.cond ≡ isAwake t.cond
+  pub left : amount u ≡ amount t
+
+-- an arrival that is taken leaves every other task as it was, but for who has a processor
+abbrev pub OthersStay : Type 0
+OthersStay = (s : State) (task : ℕ) → arrive s task .answer ≡ Done → (j : ℕ) → suc j ≢ task → Untouched (at j s.tasks) (at j (arrive s task .state .tasks))

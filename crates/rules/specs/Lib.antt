@@ -11,8 +11,12 @@ pub mod Events
 pub mod Record
 pub mod Calls
 pub mod Reasons
+pub mod Exactly
 pub mod Run
+pub mod History
 pub mod Demands
 pub mod Figures
 pub mod Computed
 pub mod Listings
+pub mod Histories
+pub mod HistoriesShown

@@ -5,7 +5,7 @@ use Prim.Native.Nat.{ℕ}
 use Rattle.ground.specs.Tests.{if_then_else_}
 use Rattle.rules.specs.Answers.{isDone}
 use Rattle.rules.specs.Admission.{Admitted, admit}
-use Rattle.rules.specs.State.{State}
+use Rattle.rules.specs.State.{State, tickOf}
 use Rattle.rules.specs.Record.{Record, readRecord}
 use Rattle.rules.specs.Calls.{arrive, step, Arrived, Stepped}
 
@@ -14,19 +14,27 @@ pub data Call : Type 0 where
   arriveCall : (task : ℕ) → Call
   stepCall : (horizon : ℕ) (room : List ℕ) → Call
 
--- the state now, and the records handed out, oldest first, read off their bytes
+-- an arrival that was taken: the task, and the tick at which it came
+pub record Arrival : Type 0 where
+  pub task : ℕ
+  pub tick : ℕ
+
+-- the state now; the records handed out, oldest first, read off their bytes; the arrivals taken, latest first
 pub record Run : Type 0 where
   pub state : State
   pub records : List Record
+  pub arrivals : List Arrival
 
 unfoldable pub perform : Run → Call → Run
-perform r (arriveCall task) = record { state = arrive r.state task .state; records = r.records }
+perform r (arriveCall task) =
+    let x = arrive r.state task in
+    record { state = x .state; records = r.records; arrivals = if isDone (x .answer) then record { task = task; tick = tickOf r.state } ∷ r.arrivals else r.arrivals }
 perform r (stepCall horizon room) =
     let x = step r.state horizon room in
-    record { state = x .state; records = if isDone (x .answer) then r.records ++ (readRecord (x .room) ∷ []) else r.records }
+    record { state = x .state; records = if isDone (x .answer) then r.records ++ (readRecord (x .room) ∷ []) else r.records; arrivals = r.arrivals }
 
 abbrev pub starting : State → Run
-starting s = record { state = s; records = [] }
+starting s = record { state = s; records = []; arrivals = [] }
 
 unfoldable pub perform-all : Run → List Call → Run
 perform-all r cs = foldl perform r cs

@@ -18,7 +18,7 @@ use Rattle.rules.specs.Scale.{scaleOf, shareOf}
 use Rattle.rules.specs.State.{noRow, nobody}
 use Rattle.rules.specs.Table.{Row}
 use Rattle.rules.specs.Together.{Together}
-use Rattle.rules.proofs.Demands.{Passes, at-fresh, admitted-together}
+use Rattle.rules.proofs.Starting.{Passes, at-fresh, admitted-together}
 use Rattle.rules.proofs.Falling.{falling-length}
 use Rattle.queue.specs.Queues.{emptyQueue, keyIn}
 use Rattle.queue.proofs.Keys.{none-empty, empty-good}
