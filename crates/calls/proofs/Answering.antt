@@ -33,6 +33,7 @@ use Rattle.calls.specs.Step.{movesAnswer, stepAnswerOf, stepOf, stepRoom
 use Rattle.calls.specs.Run.{went, filledBy, runOf, runRoom}
 use Rattle.calls.specs.Arrive.{comesAnswer, Dated, MayCome, arriveAnswerOf, arriveOf}
 use Rattle.calls.proofs.Refining.{whole-holds, arrive-same}
+use Rattle.rules.specs.Bounds.{clock}
 
 -- a state that holds together is dated
 pub whole-dated : (s : State) → Whole s → Dated (s .table .count) (s .table .scale) (s .jobs .arrived) (s .jobs .last)
@@ -44,7 +45,7 @@ whole-dated s W =
       dates = λ i h a.
           let e : at i (tasksAt s) .last ≡ getD (s .jobs .last) i 0 = ap (λ (t : Task). t .last) (task-at s i h) in
           let came = W .together .lasts .came i (ap (λ (t : Task). t .arrived) (task-at s i h) ∙ a) in
-          let le : at i (tasksAt s) .last ≤ 4294967295 = le-of-mul-le-mul-right (omega (arith, came, W .together .clock)) (F .scale-pos) in
+          let le : at i (tasksAt s) .last ≤ clock = le-of-mul-le-mul-right (omega (arith, came, W .together .clock)) (F .scale-pos) in
           omega arith;
     }
 
@@ -92,13 +93,13 @@ module _ (s : State) (horizon room : ℕ) where
       short : ltb room 48 ≡ false
       short = is-false _ (ltb-says room 48) (λ z. omega arith)
 
-      pub answer-10 : 4294967295 < horizon → HorizonPastClock ≡ stepAnswerOf s horizon room
+      pub answer-10 : clock < horizon → HorizonPastClock ≡ stepAnswerOf s horizon room
       unfolding stepAnswerOf movesAnswer
-      answer-10 b = rw (h, short, is-true (ltb 4294967295 horizon) (ltb-says 4294967295 horizon) b)
+      answer-10 b = rw (h, short, is-true (ltb clock horizon) (ltb-says clock horizon) b)
 
-      module _ (b : horizon ≤ 4294967295) where
-        past : ltb 4294967295 horizon ≡ false
-        past = is-false _ (ltb-says 4294967295 horizon) (λ z. omega arith)
+      module _ (b : horizon ≤ clock) where
+        past : ltb clock horizon ≡ false
+        past = is-false _ (ltb-says clock horizon) (λ z. omega arith)
 
         pub answer-11 : horizon * s .table .scale ≤ s .now .0 → HorizonNotLater ≡ stepAnswerOf s horizon room
         unfolding stepAnswerOf movesAnswer

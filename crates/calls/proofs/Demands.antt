@@ -49,6 +49,7 @@ use Rattle.calls.proofs.Refining.{arrives, holds-whole, whole-holds, st
 use Rattle.calls.proofs.Runs.{run-steps}
 use Rattle.calls.proofs.Serving.{Followed, plain, all-together, calls-followed, seen-good, taken-in}
 use Rattle.calls.proofs.Went.{went-whole}
+use Rattle.rules.specs.Bounds.{clock}
 
 -- DONE OR NOT
 not-done : (a : Answer) → ¬ (a ≡ Done) → isDone a ≡ false
@@ -191,7 +192,7 @@ arrive-listed s task = go (holdsOf s) (taskIn (s .table .count) task) (wholeTick
 
 step-listed : (s : State) (h n : ℕ) → OneOf (numberOf (stepAnswerOf s h n)) (0 ∷ 10 ∷ 11 ∷ 12 ∷ 13 ∷ [])
 unfolding stepAnswerOf movesAnswer
-step-listed s h n = go (holdsOf s) (ltb n 48) (ltb 4294967295 h) (leb (h * s .table .scale) (s .now .0))
+step-listed s h n = go (holdsOf s) (ltb n 48) (ltb clock h) (leb (h * s .table .scale) (s .now .0))
   where
     go : (a b c d : Bool) → OneOf (numberOf (if a then (if b then RoomTooShort else (if c then HorizonPastClock else (if d then HorizonNotLater else Done))) else NotTogether)) (0 ∷ 10 ∷ 11 ∷ 12 ∷ 13 ∷ [])
     go false b c d = inr (inr (inr (inr (inl refl))))

@@ -15,6 +15,7 @@ use Rattle.whole.specs.Whole.{Whole}
 use Rattle.whole.proofs.Keeping.{step-whole}
 use Rattle.calls.specs.Run.{Went, went, goesOn, filledBy}
 use Rattle.calls.proofs.Went.{goes-more, went-more, went-none, record-48}
+use Rattle.rules.specs.Bounds.{clock}
 
 -- what is done, and what is left
 pub record Going (h : ℕ) (s₀ : State) (room₀ : List ℕ) (s : State) (room₁ : List ℕ) (left records : ℕ) : Type 0 where
@@ -50,7 +51,7 @@ module _ (h : ℕ) (s₀ : State) (room₀ : List ℕ) (s : State) (room : List 
       let m = goes-more left (s .now .0) (h * s .table .scale) e in
       (omega (arith, m .0, G .fits, going-length), omega (arith, m .0, G .fits, going-length))
 
-  pub going-on : h ≤ 4294967295 → goesOn left (s .now .0) (h * s .table .scale) ≡ true
+  pub going-on : h ≤ clock → goesOn left (s .now .0) (h * s .table .scale) ≡ true
       → (s' : State) → s' ≡ movedOf s h .state → (part : List ℕ) → part ≡ recordBytes (movedOf s h .rec) ++ drop 48 (take (length room - records * 48) (drop (records * 48) room))
       → Going h s₀ room₀ s' (take (records * 48) room ++ (part ++ drop (length room - records * 48) (drop (records * 48) room))) (left - 1) (records + 1)
   going-on hc e s' es part ep =

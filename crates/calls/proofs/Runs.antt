@@ -28,12 +28,13 @@ use Rattle.whole.specs.Whole.{Whole}
 use Rattle.whole.proofs.Keeping.{step-whole}
 use Rattle.calls.proofs.Refining.{step-same}
 use Rattle.calls.proofs.Went.{goes-none, goes-more, went-more, went-none, by-going, record-48}
+use Rattle.rules.specs.Bounds.{clock}
 
 -- with a horizon that lies ahead, step does not refuse; with one that does not, it refuses by 11
-ahead : (s : State) (h : ℕ) → Whole s → h ≤ 4294967295 → s .now .0 < h * s .table .scale → stepAnswerOf s h 48 ≡ Done
+ahead : (s : State) (h : ℕ) → Whole s → h ≤ clock → s .now .0 < h * s .table .scale → stepAnswerOf s h 48 ≡ Done
 ahead s h W hc lt = step-same s h 48 W ∙ step-exact (view s) h 48 Done (W .together, omega arith, hc, lt)
 
-behind : (s : State) (h : ℕ) → Whole s → h ≤ 4294967295 → ¬ (s .now .0 < h * s .table .scale) → stepAnswerOf s h 48 ≡ HorizonNotLater
+behind : (s : State) (h : ℕ) → Whole s → h ≤ clock → ¬ (s .now .0 < h * s .table .scale) → stepAnswerOf s h 48 ≡ HorizonNotLater
 behind s h W hc n = step-same s h 48 W ∙ step-exact (view s) h 48 HorizonNotLater (W .together, omega arith, hc, omega arith)
 
 -- the record fills the room
@@ -55,7 +56,7 @@ still s = record { state = s; records = 0; bytes = [] }
 abbrev more : List ℕ → Went → Went
 more b r = record { state = r .state; records = suc (r .records); bytes = b ++ r .bytes }
 
-pub run-steps : (n h : ℕ) (s : State) → Whole s → h ≤ 4294967295 → went n h s ≡ steps n h s
+pub run-steps : (n h : ℕ) (s : State) → Whole s → h ≤ clock → went n h s ≡ steps n h s
 unfolding went steps
 run-steps zero h s W hc = refl
 run-steps (suc n) h s W hc = go (ltb (s .now .0) (h * s .table .scale)) (ltb-says (s .now .0) (h * s .table .scale)) (λ k K. run-steps n h k K hc)
@@ -99,7 +100,7 @@ called-none : (xs : List Arrival) (n h : ℕ) (s : State) (rs : List Record) (re
 unfolding callingAll readRecords
 called-none xs n h s rs rest e = rw (went-none n h s e, append-nil rs)
 
-called-more : (xs : List Arrival) (n h : ℕ) (s : State) (rs : List Record) (rest : List ℕ) → Whole s → h ≤ 4294967295 → s .now .0 < h * s .table .scale
+called-more : (xs : List Arrival) (n h : ℕ) (s : State) (rs : List Record) (rest : List ℕ) → Whole s → h ≤ clock → s .now .0 < h * s .table .scale
     → Called xs n h (movedOf s h .state) (rs ++ (readRecord (recordBytes (movedOf s h .rec)) ∷ [])) rest → Called xs (suc n) h s rs rest
 unfolding callingAll
 called-more xs n h s rs rest W hc lt ih =
@@ -109,7 +110,7 @@ called-more xs n h s rs rest W hc lt ih =
     (ap (λ (c : Calls). callingAll c (replicate (x .records) (oneStep h))) (one-called xs s h rs (ahead s h W hc lt))
     ∙ ih ∙ ap (at xs (x .state)) (read-more (x .records) b (x .bytes) rest rs (record-48 s h W)))
 
-went-called : (xs : List Arrival) (n h : ℕ) (s : State) (rs : List Record) (rest : List ℕ) → Whole s → h ≤ 4294967295 → Called xs n h s rs rest
+went-called : (xs : List Arrival) (n h : ℕ) (s : State) (rs : List Record) (rest : List ℕ) → Whole s → h ≤ clock → Called xs n h s rs rest
 went-called xs zero h s rs rest W hc = called-none xs zero h s rs rest (goes-none (s .now .0) (h * s .table .scale))
 went-called xs (suc n) h s rs rest W hc =
     by-going _ (suc n) h s

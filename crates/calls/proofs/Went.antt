@@ -24,6 +24,7 @@ use Rattle.rules.proofs.Calls.{moving-moves}
 use Rattle.rules.specs.Answers.{isDone}
 use Rattle.calls.specs.Step.{Ahead, stepAnswerOf}
 use Rattle.calls.specs.Run.{Went, went, goesOn, runOf}
+use Rattle.rules.specs.Bounds.{clock}
 
 pub goes-yes : (left now stop : ℕ) → 0 < left → ltb now stop ≡ goesOn left now stop
 unfolding goesOn
@@ -71,7 +72,7 @@ by-going P n h s f g = go (goesOn n (s .now .0) (h * s .table .scale)) refl
     go false e = g e
 
 -- a state that holds together still does
-pub went-whole : (n h : ℕ) (s : State) → Whole s → h ≤ 4294967295 → Whole (went n h s .state)
+pub went-whole : (n h : ℕ) (s : State) → Whole s → h ≤ clock → Whole (went n h s .state)
 went-whole zero h s W hc = rw (went-none zero h s (goes-none (s .now .0) (h * s .table .scale))) W
 went-whole (suc n) h s W hc =
     by-going _ (suc n) h s
@@ -85,13 +86,13 @@ pub record Later (s k : State) : Type 0 where
   pub scale : k .table .scale ≡ s .table .scale
 
 -- a step moves the present on
-step-later : (s : State) (h : ℕ) → Whole s → s .now .0 < h * s .table .scale → h ≤ 4294967295 → (s .now .0 < movedOf s h .state .now .0) × (movedOf s h .state .table .scale ≡ s .table .scale)
+step-later : (s : State) (h : ℕ) → Whole s → s .now .0 < h * s .table .scale → h ≤ clock → (s .now .0 < movedOf s h .state .now .0) × (movedOf s h .state .table .scale ≡ s .table .scale)
 step-later s h W lt hc =
     let M = moving-moves (view s) h (W .together) lt in
     let e = step-whole s h W lt hc .view-is in
     (omega (arith, ap (λ (x : Rules.State). x .now) e, M .arrives, M .later, M .from-now), ap (λ (x : Rules.State). x .scale) e ∙ M .same-scale)
 
-went-later : (n h : ℕ) (s : State) → Whole s → h ≤ 4294967295 → Later s (went n h s .state)
+went-later : (n h : ℕ) (s : State) → Whole s → h ≤ clock → Later s (went n h s .state)
 went-later zero h s W hc = rw (went-none zero h s (goes-none (s .now .0) (h * s .table .scale))) (record { later = omega arith; scale = refl })
 went-later (suc n) h s W hc =
     by-going _ (suc n) h s

@@ -16,6 +16,7 @@ use Rattle.plane.specs.View.{view}
 use Rattle.whole.specs.Whole.{Whole}
 use Rattle.holding.specs.Holds.{holdsOf}
 use Rattle.calls.specs.declared.Arrived.{Arrived}
+use Rattle.rules.specs.Bounds.{clock}
 
 -- 7: "task number 0 or above the row count"
 abbrev pub taskIn : ℕ → ℕ → Bool
@@ -43,7 +44,7 @@ comesAnswer s task = comesBy (s .table .count) (s .table .scale) (s .now .0) (s 
 pub record Dated (count scale : ℕ) (arrived : List Bool) (last : List ℕ) : Type 0 where
   pub few : count ≤ 128
   pub scale-pos : 0 < scale
-  pub dates : (i : ℕ) → i < count → getD arrived i false ≡ true → getD last i 0 ≤ 4294967295
+  pub dates : (i : ℕ) → i < count → getD arrived i false ≡ true → getD last i 0 ≤ clock
 
 -- "In arrive: 13, 7, 8, 9."
 unfoldable pub arriveAnswerOf : State → ℕ → Answer

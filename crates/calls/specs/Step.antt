@@ -14,12 +14,13 @@ use Rattle.plane.specs.Machine.{movedOf}
 use Rattle.whole.specs.Whole.{Whole}
 use Rattle.holding.specs.Holds.{holdsOf}
 use Rattle.calls.specs.declared.Stepped.{Stepped}
+use Rattle.rules.specs.Bounds.{clock}
 
 -- the refusals after 13: "12, 10, 11"
 unfoldable pub movesAnswer : State → ℕ → ℕ → Answer
 movesAnswer s horizon room =
     if ltb room 48 then RoomTooShort
-    else (if ltb 4294967295 horizon then HorizonPastClock
+    else (if ltb clock horizon then HorizonPastClock
     else (if leb (horizon * s .table .scale) (s .now .0) then HorizonNotLater else Done))
 
 -- "In step: 13, 12, 10, 11."
@@ -37,5 +38,5 @@ stepRoom s horizon room = if isDone (stepAnswerOf s horizon (length room)) then 
 pub record Ahead (s : State) (horizon room : ℕ) : Type 0 where
   pub whole : Whole s
   pub ahead : s .now .0 < horizon * s .table .scale
-  pub clock : horizon ≤ 4294967295
+  pub clock : horizon ≤ clock
   pub space : 48 ≤ room

@@ -262,10 +262,10 @@ fn may_step(
     ) {
         return Answer::NotTogether;
     }
-    if len < 48 {
+    if len < rules::RECORD_SIZE {
         return Answer::RoomTooShort;
     }
-    if 4294967295 < horizon {
+    if rules::CLOCK < horizon {
         return Answer::HorizonPastClock;
     }
     let present = moment.now;
@@ -563,10 +563,10 @@ pub fn run(s: State, horizon: u64, room: &mut [u8]) -> Ran
     let until = horizon * table.scale;
     let stop = Instant(until);
     let mut r = moment;
-    let mut left = room.len() / 48;
+    let mut left = room.len() / rules::RECORD_SIZE;
     let mut records: usize = 0;
     while goes_on(left, r.now, stop) {
-        let start = records * 48;
+        let start = records * rules::RECORD_SIZE;
         r = whole::step_in(
             terms,
             r,

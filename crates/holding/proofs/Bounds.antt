@@ -20,6 +20,7 @@ use Rattle.holding.specs.Clauses.{runsOk, waitsOk, slotsOk, membersOk, s
 use Rattle.holding.specs.Tables.{rowOk, rowsOk, shareOk, sharesOk, scaleOk}
 use Rattle.holding.proofs.Tables.{row-ok-says}
 use Rattle.holding.proofs.Folds.{and-both, all-none, all-at, sum-more, sum-bound, sum-mono}
+use Rattle.rules.specs.Bounds.{clock, mostScale, mostTicks}
 
 -- LAST ARRIVALS
 last-small : (arrived awake : Bool) (last tick : ℕ) → lastOk arrived awake last tick ≡ true → (awake ≡ true → last ≤ tick) × (arrived ≡ true → last ≤ tick)
@@ -56,26 +57,26 @@ pub record Fits (scale left shares : ℕ) : Type 0 where
   pub part : shares * (left % scale) ≤ 4611686018427387904
   pub both : shares * (left / scale) + shares * (left % scale) / scale ≤ 18446744073709551615
 
-pub sum-parts : (scale left shares : ℕ) → 0 < scale → scale ≤ 134217728 → left ≤ 2097153 * scale → shares ≤ 2147483648 → Fits scale left shares
+pub sum-parts : (scale left shares : ℕ) → 0 < scale → scale ≤ mostScale → left ≤ 2097153 * scale → shares ≤ 2147483648 → Fits scale left shares
 sum-parts scale left shares p h k s =
     let t : left / scale ≤ 2097153 = div-le-of-le-mul scale (omega arith) in
-    let r : left % scale ≤ 134217728 = omega (arith, mod-lt left {m = scale} p) in
+    let r : left % scale ≤ mostScale = omega (arith, mod-lt left {m = scale} p) in
     let a : shares * (left / scale) ≤ 2147483648 * 2097153 = mul-le-mul {n₂ = 2147483648} {m₂ = 2097153} s t in
-    let b : shares * (left % scale) ≤ 2147483648 * 134217728 = mul-le-mul {n₂ = 2147483648} {m₂ = 134217728} s r in
+    let b : shares * (left % scale) ≤ 2147483648 * mostScale = mul-le-mul {n₂ = 2147483648} {m₂ = mostScale} s r in
     record { whole = omega arith; part = omega arith; both = omega (arith, div-le-self (shares * (left % scale)) scale) }
 
-pub share-fits : (e d scale q : ℕ) → e ≤ 1048576 → scale ≤ 134217728 → d ≡ scale / q → (d * q ≤ scale) × (e * d ≤ 140737488355328)
+pub share-fits : (e d scale q : ℕ) → e ≤ mostTicks → scale ≤ mostScale → d ≡ scale / q → (d * q ≤ scale) × (e * d ≤ 140737488355328)
 share-fits e d scale q h k z =
-    let s : d ≤ 134217728 = omega (arith, div-le-self scale q) in
-    let m : e * d ≤ 1048576 * 134217728 = mul-le-mul {n₂ = 1048576} {m₂ = 134217728} h s in
+    let s : d ≤ mostScale = omega (arith, div-le-self scale q) in
+    let m : e * d ≤ mostTicks * mostScale = mul-le-mul {n₂ = mostTicks} {m₂ = mostScale} h s in
     (omega (arith, ap (λ (x : ℕ). x * q) z, div-add-mod' scale q), omega arith)
 
 -- ROWS
 pub record RowSmall (p e d : ℕ) : Type 0 where
   pub some : 0 < min p d
-  pub period : p ≤ 1048576
-  pub exec : e ≤ 1048576
-  pub short : min p d ≤ 1048576
+  pub period : p ≤ mostTicks
+  pub exec : e ≤ mostTicks
+  pub short : min p d ≤ mostTicks
   pub within : e ≤ min p d
 
 -- a row that passes
@@ -95,7 +96,7 @@ row-small ps es ds n i e h =
     }
 
 -- LIMITS
-pub soonest-small : (arrived : Bool) (last p ceil : ℕ) → (arrived ≡ true → last ≤ 4294967295) → ceil ≤ 4294967296 → soonestOf arrived last p ceil ≤ 4294967296 + p
+pub soonest-small : (arrived : Bool) (last p ceil : ℕ) → (arrived ≡ true → last ≤ clock) → ceil ≤ 4294967296 → soonestOf arrived last p ceil ≤ 4294967296 + p
 soonest-small true last p ceil h k = let x = h refl in omega arith
 soonest-small false last p ceil h k = omega arith
 
@@ -116,8 +117,8 @@ pub within : (a x b : ℕ) → leb a x && leb x b ≡ true → (a ≤ x) × (x �
 within a x b e = let r = and-both (leb a x) (leb x b) e in (leb-true a x (r .0), leb-true x b (r .1))
 
 -- m·L fits
-pub most-fits : (m scale : ℕ) → m ≤ 16 → scale ≤ 134217728 → m * scale ≤ 2147483648
-most-fits m scale h k = mul-le-mul {n₂ = 16} {m₂ = 134217728} h k
+pub most-fits : (m scale : ℕ) → m ≤ 16 → scale ≤ mostScale → m * scale ≤ 2147483648
+most-fits m scale h k = mul-le-mul {n₂ = 16} {m₂ = mostScale} h k
 
 -- QUEUES
 pub queue-short : (q : Queue) → queueOk q ≡ true → q .len ≤ 128
@@ -158,7 +159,7 @@ wait-keys now end keys n i e h =
 
 -- what is left of a plane that ends soon enough
 pub left-small : {xs : List ℕ} {n scale now end rn wn : ℕ} → Near xs n scale now end rn wn → end ≤ now + 1125899906842624
-left-small {scale = scale} N = let m : 2097153 * scale ≤ 2097153 * 134217728 = mul-le-mul-left 2097153 (N .scale-in .1) in omega (arith, N .near)
+left-small {scale = scale} N = let m : 2097153 * scale ≤ 2097153 * mostScale = mul-le-mul-left 2097153 (N .scale-in .1) in omega (arith, N .near)
 
 module _ {xs : List ℕ} {n scale now end rn wn : ℕ} (N : Near xs n scale now end rn wn) (rk wk : List ℕ) where
   pub run-room : runAmountsOk now end rk rn ≡ true → (i : ℕ) → i < rn → (now ≤ getD rk i 0) × (getD rk i 0 ≤ now + 1125899906842624)
@@ -180,7 +181,7 @@ module _ {xs : List ℕ} {n scale now end rn wn : ℕ} (N : Near xs n scale now 
   shares-fit awake = omega (arith, awake-small awake xs n, N .sum)
 
 -- THE END
-pub tick-small : (now scale : ℕ) → 0 < scale → now ≤ 4294967295 * scale → now / scale ≤ 4294967295
+pub tick-small : (now scale : ℕ) → 0 < scale → now ≤ clock * scale → now / scale ≤ clock
 tick-small now scale p h = div-le-of-le-mul scale (omega arith)
 
 pub ceil-small : (now scale : ℕ) → ceilOf now scale ≤ now / scale + 1
@@ -190,7 +191,7 @@ ceil-small now scale = go (eqb (now % scale) 0)
     go true = omega arith
     go false = omega arith
 
-limit-near : (awake arrived : Bool) (last p d ceil end tick : ℕ) → (awake ≡ true → last ≤ tick) → (arrived ≡ true → last ≤ tick) → ceil ≤ tick + 1 → p ≤ 1048576 → min p d ≤ 1048576
+limit-near : (awake arrived : Bool) (last p d ceil end tick : ℕ) → (awake ≡ true → last ≤ tick) → (arrived ≡ true → last ≤ tick) → ceil ≤ tick + 1 → p ≤ mostTicks → min p d ≤ mostTicks
     → limitOk awake arrived last p d ceil end ≡ true → end ≤ tick + 2097153
 limit-near true arrived last p d ceil end tick f g c hp hq e = let x = leb-true end (last + min p d) e in let y = f refl in omega arith
 limit-near false true last p d ceil end tick f g c hp hq e = let x = leb-true end (max ceil (last + p) + min p d) e in let y = g refl in omega arith
@@ -211,5 +212,5 @@ end-near {ps} {ds} {xs} {n} {m} {scale} {now} {arrived} {awake} {last} R end e =
     (omega arith, omega (arith, div-add-mod' now scale))
 
 -- the end in sub-ticks fits
-pub end-fits : (end scale : ℕ) → end ≤ 4297064448 → scale ≤ 134217728 → end * scale ≤ 1152921504606846976
-end-fits end scale h k = let m : end * scale ≤ 4297064448 * 134217728 = mul-le-mul {n₂ = 4297064448} {m₂ = 134217728} h k in omega arith
+pub end-fits : (end scale : ℕ) → end ≤ 4297064448 → scale ≤ mostScale → end * scale ≤ 1152921504606846976
+end-fits end scale h k = let m : end * scale ≤ 4297064448 * mostScale = mul-le-mul {n₂ = 4297064448} {m₂ = mostScale} h k in omega arith

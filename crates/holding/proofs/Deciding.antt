@@ -18,6 +18,7 @@ use Rattle.holding.specs.Tables.{tableOk, orderOk}
 use Rattle.holding.proofs.Bounds.{most-fits}
 use Rattle.holding.proofs.Folds.{and-first, and-next, second-fails, second-holds}
 use Rattle.holding.proofs.Tables.{scale-low, table-ok-says}
+use Rattle.rules.specs.Bounds.{clock}
 
 -- the state's own test of its queues, flags and slots, over its parts
 abbrev pub soundIn : State → Bool
@@ -60,7 +61,7 @@ module _ (s : State) where
     closed-decides g = the-plane ∙ ap (λ (b : Bool). soundIn s && (if b then openOk s else closedOk s)) g
 
 -- what the plane's checks lean on
-pub ready-of : (t : Table) → tableOk t ≡ true → (now : ℕ) (arrived awake : List Bool) (last : List ℕ) → now ≤ 4294967295 * t .scale → lastsOk arrived awake last (now / t .scale) (t .count) ≡ true
+pub ready-of : (t : Table) → tableOk t ≡ true → (now : ℕ) (arrived awake : List Bool) (last : List ℕ) → now ≤ clock * t .scale → lastsOk arrived awake last (now / t .scale) (t .count) ≡ true
     → Ready (t .period) (t .deadline) (t .share) (t .count) (t .m) (t .scale) now arrived awake last
 ready-of t e now arrived awake last k l =
     let T = of-true (tableOk t) (table-ok-says t) e in

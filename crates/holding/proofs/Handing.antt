@@ -22,6 +22,7 @@ use Rattle.holding.proofs.Deciding.{ready-of}
 use Rattle.holding.proofs.Folds.{and-both}
 use Rattle.holding.proofs.Holding.{holding-says}
 use Rattle.holding.proofs.Tables.{order-places}
+use Rattle.rules.specs.Bounds.{clock}
 
 -- each of the six tests
 pub record Passes (s : State) : Type 0 where
@@ -56,7 +57,7 @@ module _ (s : State) (z : Sized s) (o : length (s .table .order) ≡ 128) (e : h
   pub ready : Ready (s .table .period) (s .table .deadline) (s .table .share) (s .table .count) (s .table .m) (s .table .scale) (s .now .0) (s .jobs .arrived) (s .jobs .awake) (s .jobs .last)
   ready =
       let P = passes s e in
-      ready-of (s .table) (P .table) (s .now .0) (s .jobs .arrived) (s .jobs .awake) (s .jobs .last) (leb-true (s .now .0) (4294967295 * s .table .scale) (P .clock)) (P .arrivals)
+      ready-of (s .table) (P .table) (s .now .0) (s .jobs .arrived) (s .jobs .awake) (s .jobs .last) (leb-true (s .now .0) (clock * s .table .scale) (P .clock)) (P .arrivals)
 
   -- every entry of the kept order is a row
   pub order-inside : (i : ℕ) → i < s .table .count → getD (s .table .order) i 0 < s .table .count

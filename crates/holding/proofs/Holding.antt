@@ -33,6 +33,7 @@ use Rattle.holding.proofs.Clauses.{lasts-same, plane-same}
 use Rattle.holding.proofs.Folds.{and-then}
 use Rattle.holding.proofs.Seats.{seats-of}
 use Rattle.holding.proofs.Tables.{scale-low, table-ok-says, order-ok-says}
+use Rattle.rules.specs.Bounds.{clock}
 
 -- THE TABLE, AS THE RULES SEE IT
 map-map : {A B C : Type 0} (f : B → C) (g : A → B) (l : List A) → map f (map g l) ≡ map (λ x. f (g x)) l
@@ -94,14 +95,14 @@ module _ (s : State) where
   holding-says z o =
       says-as (holdsOf s) to from
       (and-then (TableOk (s .table)) _ (tableOk (s .table)) _ (table-ok-says (s .table)) (λ T.
-      (and-says _ _ (clockOk s) _ (leb-says (s .now .0) (4294967295 * s .table .scale))
+      (and-says _ _ (clockOk s) _ (leb-says (s .now .0) (clock * s .table .scale))
       (and-then (Sound s) _ (soundOf s) _ (sound-says s z) (λ S.
       (and-says _ _ (planeOk s) _ (plane-says S (scale-low (s .table) T))
       (and-says _ _ (arrivalsOk s) _ (arrivals-says S (scale-low (s .table) T)) (order-ok-says (s .table) (T .size .1) o))))))))
     where
       Parts : Type 0
       Parts =
-          TableOk (s .table) × ((s .now .0 ≤ 4294967295 * s .table .scale) × (Sound s × (Plane (view s) (view s .plane) × (Lasts (s .table .scale) (s .now .0) (tasksAt s) × OrderOk (s .table)))))
+          TableOk (s .table) × ((s .now .0 ≤ clock * s .table .scale) × (Sound s × (Plane (view s) (view s .plane) × (Lasts (s .table .scale) (s .now .0) (tasksAt s) × OrderOk (s .table)))))
 
       to : Parts → Holding s
       to h =

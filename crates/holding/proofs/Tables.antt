@@ -30,6 +30,7 @@ use Rattle.plane.specs.View.{rowOf}
 use Rattle.holding.specs.Holds.{rowsIn, sharesIn, TableOk, OrderOk}
 use Rattle.holding.specs.Tables.{rowOk, rowsOk, scaleInRange, sharesOk, commonBelow, scaleOk, tableOk, placesOk, ahead, fallsOk, orderOk}
 use Rattle.holding.proofs.Folds.{and-then, below-says}
+use Rattle.rules.specs.Bounds.{mostScale}
 
 -- THE ROWS AS A LIST
 pub row-in : (t : Table) (i : ℕ) → i < t .count → getD (rowsIn t) i noRow ≡ rowOf t i
@@ -135,7 +136,7 @@ table-ok-says t =
     (and-says _ _ (processorsOk (t .m)) _ (processors-says (t .m))
     (and-says _ _ (leb 1 (t .count) && leb (t .count) 128) _ (and-says _ _ (leb 1 (t .count)) _ (leb-says 1 (t .count)) (leb-says (t .count) 128))
     (and-then _ _ (rowsOk (t .period) (t .exec) (t .deadline) (t .count)) _ (rows-ok-says t) (λ R.
-    (and-then _ _ (scaleInRange (t .scale)) _ (and-says _ _ (leb 1 (t .scale)) _ (leb-says 1 (t .scale)) (leb-says (t .scale) 134217728)) (λ L.
+    (and-then _ _ (scaleInRange (t .scale)) _ (and-says _ _ (leb 1 (t .scale)) _ (leb-says 1 (t .scale)) (leb-says (t .scale) mostScale)) (λ L.
     (and-says _ _ (scaleOk (t .scale) (t .period) (t .exec) (t .deadline) (t .share) (t .count)) _ (scale-says t R (L .0))
     (leb-says (shareSumOf (t .share) (t .count)) (t .m * t .scale)))))))))
 

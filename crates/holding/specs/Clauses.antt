@@ -11,6 +11,7 @@ use Rattle.ground.specs.Sums.{sumOf, upFrom}
 use Rattle.queue.specs.Below.{allBelow}
 use Rattle.queue.specs.declared.Queue.{Queue}
 use Rattle.plane.specs.Sound.{noMarks, allFresh, allMarked, members, queueOk}
+use Rattle.rules.specs.Bounds.{clock, mostScale, mostTicks}
 
 -- CONDITIONS: "running on one of the m processors and no two on the same, waiting, or resting"
 -- a running entry: a task, not past, on a processor
@@ -118,9 +119,9 @@ openBy ps ds xs n m scale now end awake arrived last rk rn wk wn =
 -- a plane that ends soon enough, with few entries
 pub record Near (xs : List ℕ) (n scale now end rn wn : ℕ) : Type 0 where
   pub rows : n ≤ 128
-  pub shares : (i : ℕ) → i < n → getD xs i 0 ≤ 134217728
+  pub shares : (i : ℕ) → i < n → getD xs i 0 ≤ mostScale
   pub sum : shareSumOf xs n ≤ 2147483648
-  pub scale-in : (0 < scale) × (scale ≤ 134217728)
+  pub scale-in : (0 < scale) × (scale ≤ mostScale)
   pub later : now < end
   pub near : end ≤ now + 2097153 * scale
   pub queues : (rn ≤ 128) × (wn ≤ 128)
@@ -129,9 +130,9 @@ pub record Near (xs : List ℕ) (n scale now end rn wn : ℕ) : Type 0 where
 pub record Ready (ps ds xs : List ℕ) (n m scale now : ℕ) (arrived awake : List Bool) (last : List ℕ) : Type 0 where
   pub count : (1 ≤ n) × (n ≤ 128)
   pub processors : m ≤ 16
-  pub scale-in : (0 < scale) × (scale ≤ 134217728)
-  pub rows : (i : ℕ) → i < n → (getD ps i 0 ≤ 1048576) × (min (getD ps i 0) (getD ds i 0) ≤ 1048576)
-  pub shares : (i : ℕ) → i < n → getD xs i 0 ≤ 134217728
+  pub scale-in : (0 < scale) × (scale ≤ mostScale)
+  pub rows : (i : ℕ) → i < n → (getD ps i 0 ≤ mostTicks) × (min (getD ps i 0) (getD ds i 0) ≤ mostTicks)
+  pub shares : (i : ℕ) → i < n → getD xs i 0 ≤ mostScale
   pub sum : shareSumOf xs n ≤ 2147483648
-  pub clock : now ≤ 4294967295 * scale
+  pub clock : now ≤ clock * scale
   pub lasts : lastsOk arrived awake last (now / scale) n ≡ true

@@ -21,10 +21,11 @@ use Rattle.plane.specs.View.{rowOf, view, Sound}
 use Rattle.plane.specs.Sound.{soundOf}
 use Rattle.holding.specs.Tables.{tableOk, orderOk}
 use Rattle.holding.specs.Clauses.{lastsOk, closedBy, openBy}
+use Rattle.rules.specs.Bounds.{clock, mostScale}
 
 -- "the instant is within the clock"
 abbrev pub clockOk : State → Bool
-clockOk s = leb (s .now .0) (4294967295 * s .table .scale)
+clockOk s = leb (s .now .0) (clock * s .table .scale)
 
 -- "With a plane closed"
 abbrev pub closedOk : State → Bool
@@ -75,7 +76,7 @@ pub record TableOk (t : Table) : Type 0 where
   pub size : (1 ≤ t .count) × (t .count ≤ 128)
   pub rows : (i : ℕ) → i < t .count → RowOk (rowOf t i)
   pub scale-is : t .scale ≡ scaleOf (rowsIn t)
-  pub scale-most : t .scale ≤ 134217728
+  pub scale-most : t .scale ≤ mostScale
   pub share-is : (i : ℕ) → i < t .count → getD (t .share) i 0 ≡ shareOf (t .scale) (rowOf t i)
   pub sum : shareSumOf (t .share) (t .count) ≤ t .m * t .scale
 

@@ -10,6 +10,7 @@ use Rattle.rules.specs.Admission.{processorsOk}
 use Rattle.queue.specs.Below.{allBelow}
 use Rattle.table.specs.declared.Table.{Table}
 use Rattle.table.specs.Rows.{shareSumOf}
+use Rattle.rules.specs.Bounds.{mostScale}
 
 -- ROWS
 -- p, e and D are in range, and e is at most q
@@ -23,7 +24,7 @@ rowsOk ps es ds n = allBelow n (λ i. rowOk (getD ps i 0) (getD es i 0) (getD ds
 -- SCALE AND SHARES
 -- "L at most 134,217,728"
 abbrev pub scaleInRange : ℕ → Bool
-scaleInRange l = leb 1 l && leb l 134217728
+scaleInRange l = leb 1 l && leb l mostScale
 
 -- L is a multiple of q, and "A task's share is e times L/q"
 abbrev pub shareOk : ℕ → ℕ → ℕ → ℕ → Bool

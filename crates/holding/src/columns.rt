@@ -6,6 +6,7 @@ ghost use lib.Dec.{leb};
 ghost use lib.ListN.{getD};
 ghost use Rattle.rules.specs.Scale.{gcd};
 ghost use Rattle.holding.specs.Tables.{rowOk, rowsOk, scaleInRange, shareOk, scaleOk, tableOk, tableOf, placesOk, ahead, fallsOk};
+ghost use Rattle.rules.specs.Bounds.{mostScale, mostTicks};
 use table::gcd;
 use table::place;
 use table::processors_ok;
@@ -53,7 +54,7 @@ fn quotient(scale: u64, period: u32, deadline: u32) -> u64
 
 // With d = L/q: is L a multiple of q, and the share e times d?
 fn share_ok(scale: u64, period: u32, exec: u32, deadline: u32, share: u64, d: u64) -> bool
-    requires small { ⌜ (scale ≤ 134217728) × (exec ≤ 1048576) × (d ≡ scale / min period deadline) ⌝ }
+    requires small { ⌜ (scale ≤ mostScale) × (exec ≤ mostTicks) × (d ≡ scale / min period deadline) ⌝ }
     ensures is { λ r. ⌜ r ≡ shareOk scale (min period deadline) exec share ⌝ }
 {
     let q = wide(shorter(period, deadline));
@@ -82,7 +83,7 @@ fn scale_ok(
     count: usize,
     scale: u64,
 ) -> bool
-    requires inside { ⌜ (count ≤ 128) × (scale ≤ 134217728) × (rowsOk (now period) (now exec) (now deadline) count ≡ true) ⌝ }
+    requires inside { ⌜ (count ≤ 128) × (scale ≤ mostScale) × (rowsOk (now period) (now exec) (now deadline) count ≡ true) ⌝ }
     ensures is { λ r. ⌜ r ≡ scaleOk scale (now (period .entry)) (now (exec .entry)) (now (deadline .entry)) (now (share .entry)) count ⌝ }
 {
     let mut g = scale;
@@ -102,7 +103,11 @@ fn scale_ok(
 fn count_ok(count: usize) -> bool
     ensures is { λ r. ⌜ r ≡ leb 1 count && leb count 128 ⌝ }
 {
-    if 1 <= count { count <= 128 } else { false }
+    if 1 <= count {
+        count <= rules::MOST_TASKS
+    } else {
+        false
+    }
 }
 
 // 1 to 134,217,728?
@@ -110,7 +115,7 @@ fn scale_in_range(scale: u64) -> bool
     ensures is { λ r. ⌜ r ≡ scaleInRange scale ⌝ }
 {
     if 1 <= scale {
-        scale <= 134217728
+        scale <= rules::MOST_SCALE
     } else {
         false
     }

@@ -3,6 +3,7 @@ ghost use mathlib.Core.Path.{_≡_};
 ghost use mathlib.Core.Bool.{true};
 ghost use Prim.Native.Nat.{_/_, _≤_, _<_, min};
 ghost use Rattle.holding.specs.Clauses.{lastOk, lastsOk, restOk, restsOk, ceilOf, soonestOf, limitOk, limitsOk};
+ghost use Rattle.rules.specs.Bounds.{clock};
 use ground::Instant;
 use table::shorter;
 use table::wide;
@@ -40,7 +41,7 @@ pub fn lasts_ok(
 
 // Does an awake task's last arrival plus q lie later?
 fn rest_ok(awake: bool, last: u64, period: u32, deadline: u32, tick: u64) -> bool
-    requires small { ⌜ (awake ≡ true → last ≤ 4294967295) ⌝ }
+    requires small { ⌜ (awake ≡ true → last ≤ clock) ⌝ }
     ensures is { λ r. ⌜ r ≡ restOk awake last (min period deadline) tick ⌝ }
 {
     if awake {
@@ -59,7 +60,7 @@ pub fn rests_ok(
     tick: u64,
     count: usize,
 ) -> bool
-    requires small { ⌜ (count ≤ 128) × (tick ≤ 4294967295) × (lastsOk (now arrived) (now awake) (now last) tick count ≡ true) ⌝ }
+    requires small { ⌜ (count ≤ 128) × (tick ≤ clock) × (lastsOk (now arrived) (now awake) (now last) tick count ≡ true) ⌝ }
     ensures is { λ r. ⌜ r ≡ restsOk (now (period .entry)) (now (deadline .entry)) (now (awake .entry)) (now (last .entry)) tick count ⌝ }
 {
     let mut i: usize = 0;
@@ -74,7 +75,7 @@ pub fn rests_ok(
 
 // The present rounded up to a tick.
 pub fn ceil(present: Instant, scale: u64) -> u64
-    requires small { ⌜ (0 < scale) × (present .0 / scale ≤ 4294967295) ⌝ }
+    requires small { ⌜ (0 < scale) × (present .0 / scale ≤ clock) ⌝ }
     ensures is { λ r. ⌜ r ≡ ceilOf (present .0) scale ⌝ }
 {
     let tick = present.0 / scale;
@@ -86,7 +87,7 @@ pub fn ceil(present: Instant, scale: u64) -> u64
 
 // The present rounded up to a tick, or the last arrival plus p if later.
 fn soonest(arrived: bool, last: u64, period: u32, ceil: u64) -> u64
-    requires small { ⌜ (arrived ≡ true → last ≤ 4294967295) ⌝ }
+    requires small { ⌜ (arrived ≡ true → last ≤ clock) ⌝ }
     ensures is { λ r. ⌜ r ≡ soonestOf arrived last period ceil ⌝ }
 {
     if arrived {
@@ -109,7 +110,7 @@ fn limit_ok(
     ceil: u64,
     end: u64,
 ) -> bool
-    requires small { ⌜ (awake ≡ true → last ≤ 4294967295) × (arrived ≡ true → last ≤ 4294967295) × (ceil ≤ 4294967296) ⌝ }
+    requires small { ⌜ (awake ≡ true → last ≤ clock) × (arrived ≡ true → last ≤ clock) × (ceil ≤ 4294967296) ⌝ }
     ensures is { λ r. ⌜ r ≡ limitOk awake arrived last period deadline ceil end ⌝ }
 {
     let q = wide(shorter(period, deadline));
@@ -132,7 +133,7 @@ pub fn limits_ok(
     end: u64,
     count: usize,
 ) -> bool
-    requires small { ⌜ (count ≤ 128) × (tick ≤ 4294967295) × (ceil ≤ 4294967296) × (lastsOk (now arrived) (now awake) (now last) tick count ≡ true) ⌝ }
+    requires small { ⌜ (count ≤ 128) × (tick ≤ clock) × (ceil ≤ 4294967296) × (lastsOk (now arrived) (now awake) (now last) tick count ≡ true) ⌝ }
     ensures is { λ r. ⌜ r ≡ limitsOk (now (period .entry)) (now (deadline .entry)) (now (awake .entry)) (now (arrived .entry)) (now (last .entry)) ceil end count ⌝ }
 {
     let mut i: usize = 0;

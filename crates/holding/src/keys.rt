@@ -6,6 +6,7 @@ ghost use lib.Dec.{leb, ltb};
 ghost use lib.ListN.{getD};
 ghost use Rattle.ground.specs.Tests.{if_then_else_};
 ghost use Rattle.holding.specs.Clauses.{runAmountsOk, waitAmountsOk, idleOk, runSum, waitSum, awakeSum, sumOk, amountsOk, Near};
+ghost use Rattle.rules.specs.Bounds.{mostScale};
 use ground::Amount;
 use ground::Instant;
 use ground::between;
@@ -99,7 +100,7 @@ fn part(awake: bool, share: u64) -> u64
 
 // The sum of awake tasks' shares.
 fn awake_sum(awake: &[bool; 128], share: &[u64; 128], count: usize) -> u64
-    requires small { ⌜ (count ≤ 128) × ((i : ℕ) → i < count → getD (now share) i 0 ≤ 134217728) ⌝ }
+    requires small { ⌜ (count ≤ 128) × ((i : ℕ) → i < count → getD (now share) i 0 ≤ mostScale) ⌝ }
     ensures is { λ r. ⌜ r ≡ awakeSum (now (awake .entry)) (now (share .entry)) count ⌝ }
 {
     let mut sum: u64 = 0;
@@ -123,7 +124,7 @@ fn idle_ok(m: usize, run: usize, wait: usize) -> bool
 
 // Do amounts sum to at most shares times the remaining ticks, counted exactly?
 fn sum_ok(scale: u64, left: Amount, amounts: Amount, shares: u64) -> bool
-    requires small { ⌜ (0 < scale) × (scale ≤ 134217728) × (left .0 ≤ 2097153 * scale) × (shares ≤ 2147483648) ⌝ }
+    requires small { ⌜ (0 < scale) × (scale ≤ mostScale) × (left .0 ≤ 2097153 * scale) × (shares ≤ 2147483648) ⌝ }
     ensures is { λ r. ⌜ r ≡ sumOk scale (left .0) (amounts .0) shares ⌝ }
 {
     let ticks = left.0 / scale;

@@ -49,7 +49,7 @@ pub fn holds_lent(
     if !order_ok(share, order, count) {
         return false;
     }
-    if 4294967295 * scale < present.0 {
+    if rules::CLOCK * scale < present.0 {
         return false;
     }
     if !lasts_ok(arrived, awake, last, present.0 / scale, count) {

@@ -4,6 +4,7 @@ ghost use mathlib.Core.Bool.{true, _&&_};
 ghost use Prim.Native.Nat.{ℕ, _*_, _/_, _≤_, _<_};
 ghost use Rattle.queue.specs.Lent.{old};
 ghost use Rattle.holding.specs.Clauses.{soundBy, lastsOk, closedBy, openBy, Ready};
+ghost use Rattle.rules.specs.Bounds.{clock};
 use crate::jobs::ceil;
 use crate::jobs::limits_ok;
 use crate::jobs::rests_ok;
@@ -30,7 +31,7 @@ pub fn closed_ok(
     wn: usize,
     slots: &[u16; 16],
 ) -> bool
-    requires small { ⌜ (count ≤ 128) × (m ≤ 16) × (0 < scale) × (present .0 / scale ≤ 4294967295) × (lastsOk (now arrived) (now awake) (now last) (present .0 / scale) count ≡ true) ⌝ }
+    requires small { ⌜ (count ≤ 128) × (m ≤ 16) × (0 < scale) × (present .0 / scale ≤ clock) × (lastsOk (now arrived) (now awake) (now last) (present .0 / scale) count ≡ true) ⌝ }
     ensures is { λ r. ⌜ ((end : ℕ) → r ≡ soundBy count m (present .0) end (now (awake .entry)) (old rk rt rn) (old wk wt wn) (now (slots .entry))
         && closedBy (now (period .entry)) (now (deadline .entry)) count scale (present .0) (now (awake .entry)) (now (last .entry)) rn wn) ⌝ }
 {

@@ -6,6 +6,7 @@ use Prim.Native.Nat.{ℕ, zero, suc, _+_, _*_, _≤_, _<_}
 use native.Mathlib.Omega.{arith}
 use lib.Dec.{leb, ltb, eqb}
 use lib.ListN.{length, getD}
+use Rattle.rules.specs.Bounds.{mostScale, mostTicks}
 use Rattle.rules.specs.declared.Answer.{Answer}
 use Rattle.rules.specs.declared.Answer.the-variants.{Done, RowRange, RowExecution, Scale, Shares}
 use Rattle.ground.specs.Sums.{sumOf}
@@ -21,7 +22,7 @@ use Rattle.rules.specs.Table.{Row, shorter, inRange, rowInRange}
 use Rattle.rules.specs.Together.{InRange}
 
 range-says : (x : ℕ) → Says (InRange x) (inRange x)
-range-says x = and-says (1 ≤ x) (x ≤ 1048576) (leb 1 x) (leb x 1048576) (leb-says 1 x) (leb-says x 1048576)
+range-says x = and-says (1 ≤ x) (x ≤ mostTicks) (leb 1 x) (leb x mostTicks) (leb-says 1 x) (leb-says x mostTicks)
 
 pub row-says : (r : Row) → Says (RowInRange r) (rowInRange r)
 row-says r =
@@ -51,12 +52,12 @@ faults-says i (r ∷ rs) = go (isDone (faultOf r)) refl (fault-says r) (faults-s
     go false e p ih = rw e (λ h. p (h 0 (omega arith)))
 
 -- neither 5 nor 6
-pub size-says : (m : ℕ) (rs : List Row) → Says ((scaleOf rs ≤ 134217728) × (sumOf (shareOf (scaleOf rs)) rs ≤ m * scaleOf rs)) (isDone (sizeVerdict m rs .answer))
+pub size-says : (m : ℕ) (rs : List Row) → Says ((scaleOf rs ≤ mostScale) × (sumOf (shareOf (scaleOf rs)) rs ≤ m * scaleOf rs)) (isDone (sizeVerdict m rs .answer))
 unfolding sizeVerdict fits
-size-says m rs = go (ltb 134217728 (scaleOf rs)) (ltb-says 134217728 (scaleOf rs)) (leb (sumOf (shareOf (scaleOf rs)) rs) (m * scaleOf rs)) (leb-says (sumOf (shareOf (scaleOf rs)) rs) (m * scaleOf rs))
+size-says m rs = go (ltb mostScale (scaleOf rs)) (ltb-says mostScale (scaleOf rs)) (leb (sumOf (shareOf (scaleOf rs)) rs) (m * scaleOf rs)) (leb-says (sumOf (shareOf (scaleOf rs)) rs) (m * scaleOf rs))
   where
-    go : (a : Bool) → Says (134217728 < scaleOf rs) a → (b : Bool) → Says (sumOf (shareOf (scaleOf rs)) rs ≤ m * scaleOf rs) b
-        → Says ((scaleOf rs ≤ 134217728) × (sumOf (shareOf (scaleOf rs)) rs ≤ m * scaleOf rs)) (isDone ((if a then plain Scale else (if b then plain Done else plain Shares)) .answer))
+    go : (a : Bool) → Says (mostScale < scaleOf rs) a → (b : Bool) → Says (sumOf (shareOf (scaleOf rs)) rs ≤ m * scaleOf rs) b
+        → Says ((scaleOf rs ≤ mostScale) × (sumOf (shareOf (scaleOf rs)) rs ≤ m * scaleOf rs)) (isDone ((if a then plain Scale else (if b then plain Done else plain Shares)) .answer))
     go true p b q = λ h. omega (arith, h .0)
     go false p true q = (omega arith, q)
     go false p false q = λ h. q (h .1)
@@ -64,7 +65,7 @@ size-says m rs = go (ltb 134217728 (scaleOf rs)) (ltb-says 134217728 (scaleOf rs
 -- the rows pass
 pub record RowsPass (m : ℕ) (rs : List Row) : Type 0 where
   pub rows : (j : ℕ) → j < length rs → RowOk (getD rs j noRow)
-  pub scale-most : scaleOf rs ≤ 134217728
+  pub scale-most : scaleOf rs ≤ mostScale
   pub sum : sumOf (shareOf (scaleOf rs)) rs ≤ m * scaleOf rs
 
 pub rows-says : (m : ℕ) (rs : List Row) → Says (RowsPass m rs) (isDone (rowsVerdict m rs .answer))

@@ -13,6 +13,7 @@ use lib.ListN.{length}
 use Rattle.ground.specs.Bytes.{le}
 use Rattle.ground.specs.Tests.{Says}
 use Rattle.ground.proofs.Tests.{eqb-says}
+use Rattle.rules.specs.Bounds.{clock}
 use Rattle.rules.specs.Calls.{lowestIdle, wake, arriveIn, arriving, arrive, Moved, after, moveTo, moveIn, moving}
 use Rattle.rules.specs.Events.{nextAt}
 use Rattle.rules.specs.Planes.{endOf, openAt, openCase, opened}
@@ -41,7 +42,7 @@ pub next-is : {m scale now e : ℕ} (l : List Task) (stop : ℕ) → Running m s
 next-is {m} {scale} {now} {e} l stop P h = next-ok (e * scale) now stop l (running-stands l P) (omega (arith, P .going .later)) (omega (arith, P .going .later)) h
 
 -- at the instant `to`: the end, or before it
-after-keeps : (s : State) (e to stop : ℕ) → Running s.m s.scale s.now e s.tasks → Next (e * s.scale) s.now stop (e * s.scale - s.now) to s.tasks → to ≤ 4294967295 * s.scale
+after-keeps : (s : State) (e to stop : ℕ) → Running s.m s.scale s.now e s.tasks → Next (e * s.scale) s.now stop (e * s.scale - s.now) to s.tasks → to ≤ clock * s.scale
     → (b : Bool) → Says (to ≡ e * s.scale) b → Together (after s e to b)
 unfolding after
 after-keeps s e to stop P N c true q =
@@ -51,20 +52,20 @@ after-keeps s e to stop P N c false q =
     let R = runs-on s.tasks P to (N .moves) (N .room) (omega (arith, N .by-end)) .running in
     record { table = R .table; clock = c; seats = R .seats; lasts = R .lasts; plane = R .going }
 
-move-keeps : (s : State) (h e : ℕ) → Running s.m s.scale s.now e s.tasks → s.now < h * s.scale → h ≤ 4294967295 → Together (moveIn s (some e) h .state)
+move-keeps : (s : State) (h e : ℕ) → Running s.m s.scale s.now e s.tasks → s.now < h * s.scale → h ≤ clock → Together (moveIn s (some e) h .state)
 unfolding moveIn moveTo
 move-keeps s h e P lt hc =
     let N = next-is s.tasks (h * s.scale) P lt in
     after-keeps s e _ (h * s.scale) P N (omega (arith, N .by-stop, mul-le-mul-right s.scale hc)) _ (eqb-says _ (e * s.scale))
 
-case-keeps : (s : State) (h : ℕ) → Together s → s.now < h * s.scale → h ≤ 4294967295 → (p : Option ℕ) → s.plane ≡ p → Together (moveIn (openCase s p) (openCase s p .plane) h .state)
+case-keeps : (s : State) (h : ℕ) → Together s → s.now < h * s.scale → h ≤ clock → (p : Option ℕ) → s.plane ≡ p → Together (moveIn (openCase s p) (openCase s p .plane) h .state)
 unfolding openCase openAt
 case-keeps s h H lt hc none q =
     let O = opens-plane s.tasks (shut-parts s H q) in
     move-keeps (openAt s (tickOf s) (endOf (tickOf s) s.tasks)) h (endOf (tickOf s) s.tasks) (O .running) lt hc
 case-keeps s h H lt hc (some e) q = subst (λ p. Together (moveIn s p h .state)) (sym q) (move-keeps s h e (open-parts s e H q) lt hc)
 
-pub moving-keeps : (s : State) (h : ℕ) → Together s → s.now < h * s.scale → h ≤ 4294967295 → Together (moving s h .state)
+pub moving-keeps : (s : State) (h : ℕ) → Together s → s.now < h * s.scale → h ≤ clock → Together (moving s h .state)
 unfolding moving opened
 moving-keeps s h H lt hc = case-keeps s h H lt hc s.plane refl
 

@@ -16,6 +16,7 @@ use Rattle.ground.specs.Tests.{if_then_else_, Says, every}
 use Rattle.ground.proofs.Sums.{sumOf-cong, sumOf-none, sumOf-map}
 use Rattle.ground.proofs.Tests.{leb-says, ltb-says, eqb-says, and-says, or-says, says-as, if-by, every-says, every-up-says}
 use Rattle.ground.proofs.Times.{same-no}
+use Rattle.rules.specs.Bounds.{clock}
 use Rattle.rules.specs.Admission.{processorsOk, rowsVerdict}
 use Rattle.rules.specs.Answers.{isDone}
 use Rattle.rules.specs.Figures.{row}
@@ -277,7 +278,7 @@ holds-says s = go (tableHolds s) (table-says s)
         says-as (clockHolds s && (conditionsHold s && (lastsHold s && planeHolds s s.plane)))
         (λ h. record { table = T; clock = h .0; seats = h .1 .0; lasts = h .1 .1 .0; plane = h .1 .1 .1 })
         (λ H. (H .clock, (H .seats, (H .lasts, H .plane))))
-        (and-says _ _ (clockHolds s) _ (leb-says s.now (4294967295 * s.scale))
+        (and-says _ _ (clockHolds s) _ (leb-says s.now (clock * s.scale))
         (and-says _ _ (conditionsHold s) _ (seats-says s)
         (and-says _ _ (lastsHold s) (planeHolds s s.plane) (lasts-says s) (plane-says s s.plane (facts s.tasks T .scale-pos)))))
     go false n = λ H. n (H .table)

@@ -7,6 +7,7 @@ use native.Mathlib.Nat.{div-add-mod'}
 use native.Mathlib.Omega.{arith}
 use lib.Dec.{leb, ltb, eqb}
 use lib.ListN.{length, getD}
+use Rattle.rules.specs.Bounds.{clock, mostScale}
 use Rattle.rules.specs.declared.Answer.{Answer}
 use Rattle.rules.specs.declared.Answer.the-variants.{Done, Processors, TableLength, RowRange, RowExecution, Scale, Shares, TaskNumber, BetweenTicks, TooSoon, HorizonPastClock, HorizonNotLater, RoomTooShort, NotTogether, TextForm}
 use Rattle.ground.specs.Sums.{sumOf}
@@ -58,9 +59,9 @@ arrive-answers s task =
 pub step-answers : (s : State) (horizon room : ℕ) → StepReason s horizon room (stepAnswer s horizon room)
 unfolding stepAnswer
 step-answers s h n =
-    go (holds s) (holds-says s) (ltb n 48) (ltb-says n 48) (ltb 4294967295 h) (ltb-says 4294967295 h) (leb (h * s.scale) s.now) (leb-says (h * s.scale) s.now)
+    go (holds s) (holds-says s) (ltb n 48) (ltb-says n 48) (ltb clock h) (ltb-says clock h) (leb (h * s.scale) s.now) (leb-says (h * s.scale) s.now)
   where
-    go : (a : Bool) → Says (Together s) a → (b : Bool) → Says (n < 48) b → (c : Bool) → Says (4294967295 < h) c → (d : Bool) → Says (h * s.scale ≤ s.now) d
+    go : (a : Bool) → Says (Together s) a → (b : Bool) → Says (n < 48) b → (c : Bool) → Says (clock < h) c → (d : Bool) → Says (h * s.scale ≤ s.now) d
         → StepReason s h n (if not a then NotTogether else (if b then RoomTooShort else (if c then HorizonPastClock else (if d then HorizonNotLater else Done))))
     go false p b q c r d u = p
     go true p true q c r d u = (p, q)
@@ -186,9 +187,9 @@ admit-answers bytes m = go (processorsOk m) (processors-says m) (lengthOk (lengt
     rs = rowsOf bytes
 
     size : ProcessorsOk m → LengthOk (length bytes) → RowsOk (rowsOf bytes) → AdmitReason bytes m (sizeVerdict m (rowsOf bytes) .answer) (sizeVerdict m (rowsOf bytes) .row)
-    size p q r = unfold sizeVerdict fits in (by (ltb 134217728 (scaleOf rs)) (ltb-says 134217728 (scaleOf rs)) (leb (sumOf (shareOf (scaleOf rs)) rs) (m * scaleOf rs)) (leb-says (sumOf (shareOf (scaleOf rs)) rs) (m * scaleOf rs)))
+    size p q r = unfold sizeVerdict fits in (by (ltb mostScale (scaleOf rs)) (ltb-says mostScale (scaleOf rs)) (leb (sumOf (shareOf (scaleOf rs)) rs) (m * scaleOf rs)) (leb-says (sumOf (shareOf (scaleOf rs)) rs) (m * scaleOf rs)))
       where
-        by : (a : Bool) → Says (134217728 < scaleOf (rowsOf bytes)) a → (b : Bool) → Says (sumOf (shareOf (scaleOf (rowsOf bytes))) (rowsOf bytes) ≤ m * scaleOf (rowsOf bytes)) b
+        by : (a : Bool) → Says (mostScale < scaleOf (rowsOf bytes)) a → (b : Bool) → Says (sumOf (shareOf (scaleOf (rowsOf bytes))) (rowsOf bytes) ≤ m * scaleOf (rowsOf bytes)) b
             → AdmitReason bytes m ((if a then plain Scale else (if b then plain Done else plain Shares)) .answer) ((if a then plain Scale else (if b then plain Done else plain Shares)) .row)
         by true u b v = (refl, p, q, r, u)
         by false u true v = (refl, p, q, r, omega arith, v)
@@ -275,7 +276,7 @@ admit-exact bytes m Scale i h =
       is-true (processorsOk m) (processors-says m) (h .1),
       is-true (lengthOk (length bytes)) (length-says (length bytes)) (h .2),
       no-fault 1 (rowsOf bytes) (h .3),
-      is-true (ltb 134217728 (scaleOf (rowsOf bytes))) (ltb-says 134217728 (scaleOf (rowsOf bytes))) (h .4),
+      is-true (ltb mostScale (scaleOf (rowsOf bytes))) (ltb-says mostScale (scaleOf (rowsOf bytes))) (h .4),
       h .0,
     )
 admit-exact bytes m Shares i h =
@@ -284,7 +285,7 @@ admit-exact bytes m Shares i h =
       is-true (processorsOk m) (processors-says m) (h .1),
       is-true (lengthOk (length bytes)) (length-says (length bytes)) (h .2),
       no-fault 1 rs (h .3),
-      is-false (ltb 134217728 (scaleOf rs)) (ltb-says 134217728 (scaleOf rs)) (λ q. omega (arith, h .4)),
+      is-false (ltb mostScale (scaleOf rs)) (ltb-says mostScale (scaleOf rs)) (λ q. omega (arith, h .4)),
       is-false (leb (sumOf (shareOf (scaleOf rs)) rs) (m * scaleOf rs)) (leb-says (sumOf (shareOf (scaleOf rs)) rs) (m * scaleOf rs)) (λ q. omega (arith, h .5)),
       h .0,
     )
@@ -294,7 +295,7 @@ admit-exact bytes m Done i h =
       is-true (processorsOk m) (processors-says m) (h .1),
       is-true (lengthOk (length bytes)) (length-says (length bytes)) (h .2),
       no-fault 1 rs (h .3),
-      is-false (ltb 134217728 (scaleOf rs)) (ltb-says 134217728 (scaleOf rs)) (λ q. omega (arith, h .4)),
+      is-false (ltb mostScale (scaleOf rs)) (ltb-says mostScale (scaleOf rs)) (λ q. omega (arith, h .4)),
       is-true (leb (sumOf (shareOf (scaleOf rs)) rs) (m * scaleOf rs)) (leb-says (sumOf (shareOf (scaleOf rs)) rs) (m * scaleOf rs)) (h .5),
       h .0,
     )
@@ -335,11 +336,11 @@ unfolding stepAnswer
 step-exact s h n NotTogether p = rw (is-false (holds s) (holds-says s) p)
 step-exact s h n RoomTooShort p = rw (is-true (holds s) (holds-says s) (p .0), is-true (ltb n 48) (ltb-says n 48) (p .1))
 step-exact s h n HorizonPastClock p =
-    rw (is-true (holds s) (holds-says s) (p .0), is-false (ltb n 48) (ltb-says n 48) (λ q. omega (arith, p .1)), is-true (ltb 4294967295 h) (ltb-says 4294967295 h) (p .2))
+    rw (is-true (holds s) (holds-says s) (p .0), is-false (ltb n 48) (ltb-says n 48) (λ q. omega (arith, p .1)), is-true (ltb clock h) (ltb-says clock h) (p .2))
 step-exact s h n HorizonNotLater p =
-    rw (is-true (holds s) (holds-says s) (p .0), is-false (ltb n 48) (ltb-says n 48) (λ q. omega (arith, p .1)), is-false (ltb 4294967295 h) (ltb-says 4294967295 h) (λ q. omega (arith, p .2)), is-true (leb (h * s.scale) s.now) (leb-says (h * s.scale) s.now) (p .3))
+    rw (is-true (holds s) (holds-says s) (p .0), is-false (ltb n 48) (ltb-says n 48) (λ q. omega (arith, p .1)), is-false (ltb clock h) (ltb-says clock h) (λ q. omega (arith, p .2)), is-true (leb (h * s.scale) s.now) (leb-says (h * s.scale) s.now) (p .3))
 step-exact s h n Done p =
-    rw (is-true (holds s) (holds-says s) (p .0), is-false (ltb n 48) (ltb-says n 48) (λ q. omega (arith, p .1)), is-false (ltb 4294967295 h) (ltb-says 4294967295 h) (λ q. omega (arith, p .2)), is-false (leb (h * s.scale) s.now) (leb-says (h * s.scale) s.now) (λ q. omega (arith, p .3)))
+    rw (is-true (holds s) (holds-says s) (p .0), is-false (ltb n 48) (ltb-says n 48) (λ q. omega (arith, p .1)), is-false (ltb clock h) (ltb-says clock h) (λ q. omega (arith, p .2)), is-false (leb (h * s.scale) s.now) (leb-says (h * s.scale) s.now) (λ q. omega (arith, p .3)))
 step-exact s h n Processors p = absurd p
 step-exact s h n TableLength p = absurd p
 step-exact s h n RowRange p = absurd p

@@ -15,6 +15,7 @@ use Rattle.ground.specs.Sums.{upFrom, times}
 use Rattle.ground.specs.Tests.{Says}
 use Rattle.ground.proofs.Tests.{eqb-says, if-by}
 use Rattle.ground.proofs.Times.{up-length}
+use Rattle.rules.specs.Bounds.{clock, mostScale}
 use Rattle.rules.specs.Calls.{Moved, after, moveTo, moveIn, moving, step}
 use Rattle.rules.specs.History.{ran, Follows}
 use Rattle.rules.specs.Events.{spend, nextAt}
@@ -71,10 +72,10 @@ slot-most m l h hm =
         zeros (suc k) zero = omega arith
         zeros (suc k) (suc i) = zeros k i
 
-fits-clock : (now scale : ℕ) → now ≤ 4294967295 * scale → scale ≤ 134217728 → now < 256 ^ 8
+fits-clock : (now scale : ℕ) → now ≤ clock * scale → scale ≤ mostScale → now < 256 ^ 8
 fits-clock now scale h k =
-    let b : 4294967295 * 134217728 < 256 ^ 8 = lit< tt in
-    let c : 4294967295 * scale ≤ 4294967295 * 134217728 = native.Mathlib.Nat.mul-le-mul-left 4294967295 k in
+    let b : clock * mostScale < 256 ^ 8 = lit< tt in
+    let c : clock * scale ≤ clock * mostScale = native.Mathlib.Nat.mul-le-mul-left clock k in
     omega arith
 
 -- A STEP
@@ -138,9 +139,9 @@ module _ (s : State) (rs : List Record) (h e : ℕ) (P : Running s.m s.scale s.n
       run-one (running p a) = omega arith
       run-one (waiting a) = omega arith
 
-  written-this : h ≤ 4294967295 → Written (record { from = s.now; to = nextAt (e * s.scale) s.now s.tasks (h * s.scale); slots = slotsOf s.m s.tasks })
+  written-this : h ≤ clock → Written (record { from = s.now; to = nextAt (e * s.scale) s.now s.tasks (h * s.scale); slots = slotsOf s.m s.tasks })
   written-this hc =
-      let c : to ≤ 4294967295 * s.scale = omega (arith, N .by-stop, mul-le-mul-right s.scale hc) in
+      let c : to ≤ clock * s.scale = omega (arith, N .by-stop, mul-le-mul-right s.scale hc) in
       let sl = slot-most s.m s.tasks (P .table .size .1) (P .table .processors .1) in
       record {
         from = fits-clock s.now s.scale (omega (arith, N .moves)) (P .table .scale-most);
@@ -149,7 +150,7 @@ module _ (s : State) (rs : List Record) (h e : ℕ) (P : Running s.m s.scale s.n
         each = sl .1;
       }
 
-  move-does : h ≤ 4294967295 → Does s.scale s e rs (moveIn s (some e) h)
+  move-does : h ≤ clock → Does s.scale s e rs (moveIn s (some e) h)
   unfolding moveIn moveTo
   move-does hc =
       let b = eqb to (e * s.scale) in
@@ -167,7 +168,7 @@ module _ (s : State) (rs : List Record) (h e : ℕ) (P : Running s.m s.scale s.n
       }
 
 -- OR IN A NEW ONE
-case-does : (s : State) (rs : List Record) (h : ℕ) → Together s → Follows 0 rs s.now → s.now < h * s.scale → h ≤ 4294967295 → (p : Option ℕ) → s.plane ≡ p → Books s p rs
+case-does : (s : State) (rs : List Record) (h : ℕ) → Together s → Follows 0 rs s.now → s.now < h * s.scale → h ≤ clock → (p : Option ℕ) → s.plane ≡ p → Books s p rs
     → Does s.scale s (endIn s p) rs (moveIn (openCase s p) (openCase s p .plane) h)
 unfolding openCase openAt
 case-does s rs h H f lt hc none q B =
@@ -190,6 +191,6 @@ case-does s rs h H f lt hc none q B =
 case-does s rs h H f lt hc (some e) q B =
     subst (λ p. Does s.scale s e rs (moveIn s p h)) (sym q) (move-does s rs h e (open-parts s e H q) B f lt hc)
 
-pub moving-does : (s : State) (rs : List Record) (h : ℕ) → Together s → Follows 0 rs s.now → s.now < h * s.scale → h ≤ 4294967295 → Books s s.plane rs → Does s.scale s (endIn s s.plane) rs (moving s h)
+pub moving-does : (s : State) (rs : List Record) (h : ℕ) → Together s → Follows 0 rs s.now → s.now < h * s.scale → h ≤ clock → Books s s.plane rs → Does s.scale s (endIn s s.plane) rs (moving s h)
 unfolding moving opened
 moving-does s rs h H f lt hc B = case-does s rs h H f lt hc s.plane refl B

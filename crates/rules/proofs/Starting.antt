@@ -5,6 +5,7 @@ use mathlib.Core.List.{List, [], _∷_, map}
 use Prim.Native.Nat.{ℕ, zero, suc, _+_, _*_, _/_, _≤_, _<_}
 use native.Mathlib.Omega.{arith}
 use lib.ListN.{length, getD, length-map}
+use Rattle.rules.specs.Bounds.{mostScale}
 use Rattle.rules.specs.declared.Answer.{Answer}
 use Rattle.rules.specs.declared.Answer.the-variants.{Done}
 use Rattle.ground.specs.Sums.{sumOf, upFrom}
@@ -25,7 +26,7 @@ pub record Passes (m : ℕ) (rs : List Row) : Type 0 where
   pub processors : (1 ≤ m) × (m ≤ 16)
   pub size : (1 ≤ length rs) × (length rs ≤ 128)
   pub rows : RowsOk rs
-  pub scale-most : scaleOf rs ≤ 134217728
+  pub scale-most : scaleOf rs ≤ mostScale
   pub sum : sumOf (shareOf (scaleOf rs)) rs ≤ m * scaleOf rs
 
 pub at-fresh : (l : ℕ) (rs : List Row) (j : ℕ) → j < length rs → at j (map (fresh l) rs) ≡ fresh l (getD rs j noRow)

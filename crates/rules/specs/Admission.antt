@@ -5,6 +5,7 @@ use Prim.Native.Nat.{ℕ, zero, suc, _+_, _*_, _%_}
 use lib.Dec.{leb, ltb, eqb}
 use lib.ListN.{length}
 use Rattle.ground.specs.Tests.{if_then_else_}
+use Rattle.rules.specs.Bounds.{mostProcessors, mostScale, mostTasks, rowSize}
 use Rattle.rules.specs.declared.Answer.{Answer}
 use Rattle.rules.specs.declared.Answer.the-variants.{Done, Processors, TableLength, RowRange, RowExecution, Scale, Shares}
 use Rattle.rules.specs.Answers.{isDone}
@@ -14,11 +15,11 @@ use Rattle.rules.specs.State.{State, blank, admitted}
 
 -- 1: "m is 0 or above 16"
 abbrev pub processorsOk : ℕ → Bool
-processorsOk m = leb 1 m && leb m 16
+processorsOk m = leb 1 m && leb m mostProcessors
 
 -- 2: "byte length is 0, above 1,536, or not a multiple of 12"
 abbrev pub lengthOk : ℕ → Bool
-lengthOk n = leb 1 n && (leb n 1536 && eqb (n % 12) 0)
+lengthOk n = leb 1 n && (leb n (mostTasks * rowSize) && eqb (n % rowSize) 0)
 
 -- 3: "a row has p, e or D out of range"; 4: "a row has e above q"; "3 before 4 in one row"
 abbrev pub faultOf : Row → Answer
@@ -39,7 +40,7 @@ faultFrom i (r ∷ rs) = elim (isDone (faultOf r)) [ true ↦ faultFrom (suc i) 
 
 -- 5: "L is above 134,217,728"; 6: "shares sum above m times L"
 unfoldable pub sizeVerdict : ℕ → List Row → Verdict
-sizeVerdict m rs = if ltb 134217728 (scaleOf rs) then plain Scale else (if fits m rs then plain Done else plain Shares)
+sizeVerdict m rs = if ltb mostScale (scaleOf rs) then plain Scale else (if fits m rs then plain Done else plain Shares)
 
 abbrev pub orElse : Verdict → Verdict → Verdict
 orElse v w = if isDone (v .answer) then w else v

@@ -6,6 +6,7 @@ use Prim.Native.Nat.{ℕ, zero, suc, _+_, _*_, _-_}
 use lib.Dec.{leb, ltb, eqb}
 use lib.ListN.{length, set, drop}
 use Rattle.ground.specs.Tests.{if_then_else_}
+use Rattle.rules.specs.Bounds.{clock, recordSize}
 use Rattle.rules.specs.declared.Answer.{Answer}
 use Rattle.rules.specs.declared.Answer.the-variants.{Done, TaskNumber, BetweenTicks, TooSoon, HorizonPastClock, HorizonNotLater, RoomTooShort, NotTogether}
 use Rattle.rules.specs.Answers.{isDone}
@@ -94,8 +95,8 @@ moving s horizon = let o = opened s in moveIn o o.plane horizon
 unfoldable pub stepAnswer : State → ℕ → ℕ → Answer
 stepAnswer s horizon room =
     if not (holds s) then NotTogether
-    else (if ltb room 48 then RoomTooShort
-    else (if ltb 4294967295 horizon then HorizonPastClock
+    else (if ltb room recordSize then RoomTooShort
+    else (if ltb clock horizon then HorizonPastClock
     else (if leb (horizon * s.scale) s.now then HorizonNotLater else Done)))
 
 pub record Stepped : Type 0 where
@@ -111,5 +112,5 @@ step s horizon room =
     record {
       answer = a;
       state = if isDone a then x .state else s;
-      room = if isDone a then recordBytes (x .rec) ++ drop 48 room else room;
+      room = if isDone a then recordBytes (x .rec) ++ drop recordSize room else room;
     }

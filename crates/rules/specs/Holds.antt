@@ -7,6 +7,7 @@ use lib.Dec.{leb, ltb, eqb}
 use lib.ListN.{length}
 use Rattle.ground.specs.Tests.{if_then_else_, every}
 use Rattle.ground.specs.Sums.{sumOf, upFrom}
+use Rattle.rules.specs.Bounds.{clock, mostTasks}
 use Rattle.rules.specs.Answers.{isDone}
 use Rattle.rules.specs.Table.{Row}
 use Rattle.rules.specs.Scale.{scaleOf, shareOf}
@@ -19,12 +20,12 @@ rowsIn s = map (λ (t : Task). t.row) s.tasks
 -- "table, m, L and shares pass admission"
 unfoldable pub tableHolds : State → Bool
 tableHolds s =
-    processorsOk s.m && (leb 1 (length s.tasks) && (leb (length s.tasks) 128 && (isDone (rowsVerdict s.m (rowsIn s) .answer)
+    processorsOk s.m && (leb 1 (length s.tasks) && (leb (length s.tasks) mostTasks && (isDone (rowsVerdict s.m (rowsIn s) .answer)
     && (eqb s.scale (scaleOf (rowsIn s)) && every (λ (t : Task). eqb t.share (shareOf s.scale t.row)) s.tasks))))
 
 -- "the instant is within the clock"
 abbrev pub clockHolds : State → Bool
-clockHolds s = leb s.now (4294967295 * s.scale)
+clockHolds s = leb s.now (clock * s.scale)
 
 -- "running on one of the m processors"
 abbrev pub seated : ℕ → Cond → Bool

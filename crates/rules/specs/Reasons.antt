@@ -6,6 +6,7 @@ use mathlib.Core.List.{List, []}
 use Prim.Native.Nat.{ℕ, _+_, _*_, _-_, _/_, _%_, _≤_, _<_}
 use lib.ListN.{length, getD}
 use Rattle.ground.specs.Sums.{sumOf}
+use Rattle.rules.specs.Bounds.{clock, mostProcessors, mostScale, mostTasks, recordSize, rowSize}
 use Rattle.rules.specs.declared.Answer.{Answer}
 use Rattle.rules.specs.declared.Answer.the-variants.{Done, Processors, TableLength, RowRange, RowExecution, Scale, Shares, TaskNumber, BetweenTicks, TooSoon, HorizonPastClock, HorizonNotLater, RoomTooShort, NotTogether, TextForm}
 use Rattle.rules.specs.Table.{Row, rowsOf, shorter}
@@ -15,10 +16,10 @@ use Rattle.rules.specs.Together.{InRange, Together}
 
 -- ADMIT, with its row; the conditions are in 01's order, each after the ones before it
 abbrev pub ProcessorsOk : ℕ → Type 0
-ProcessorsOk m = (1 ≤ m) × (m ≤ 16)
+ProcessorsOk m = (1 ≤ m) × (m ≤ mostProcessors)
 
 abbrev pub LengthOk : ℕ → Type 0
-LengthOk n = (1 ≤ n) × (n ≤ 1536) × (n % 12 ≡ 0)
+LengthOk n = (1 ≤ n) × (n ≤ mostTasks * rowSize) × (n % rowSize ≡ 0)
 
 abbrev pub RowInRange : Row → Type 0
 RowInRange r = InRange r.period × InRange r.exec × InRange r.deadline
@@ -42,12 +43,12 @@ AdmitReason bytes m RowRange i =
 AdmitReason bytes m RowExecution i =
     (1 ≤ i) × (i ≤ length (rowsOf bytes)) × ProcessorsOk m × LengthOk (length bytes) × OkBefore i (rowsOf bytes) × RowInRange (getD (rowsOf bytes) (i - 1) noRow)
     × (shorter (getD (rowsOf bytes) (i - 1) noRow) < getD (rowsOf bytes) (i - 1) noRow .exec)
-AdmitReason bytes m Scale i = (i ≡ 0) × ProcessorsOk m × LengthOk (length bytes) × RowsOk (rowsOf bytes) × (134217728 < scaleOf (rowsOf bytes))
+AdmitReason bytes m Scale i = (i ≡ 0) × ProcessorsOk m × LengthOk (length bytes) × RowsOk (rowsOf bytes) × (mostScale < scaleOf (rowsOf bytes))
 AdmitReason bytes m Shares i =
-    (i ≡ 0) × ProcessorsOk m × LengthOk (length bytes) × RowsOk (rowsOf bytes) × (scaleOf (rowsOf bytes) ≤ 134217728)
+    (i ≡ 0) × ProcessorsOk m × LengthOk (length bytes) × RowsOk (rowsOf bytes) × (scaleOf (rowsOf bytes) ≤ mostScale)
     × (m * scaleOf (rowsOf bytes) < sumOf (shareOf (scaleOf (rowsOf bytes))) (rowsOf bytes))
 AdmitReason bytes m Done i =
-    (i ≡ 0) × ProcessorsOk m × LengthOk (length bytes) × RowsOk (rowsOf bytes) × (scaleOf (rowsOf bytes) ≤ 134217728)
+    (i ≡ 0) × ProcessorsOk m × LengthOk (length bytes) × RowsOk (rowsOf bytes) × (scaleOf (rowsOf bytes) ≤ mostScale)
     × (sumOf (shareOf (scaleOf (rowsOf bytes))) (rowsOf bytes) ≤ m * scaleOf (rowsOf bytes))
 AdmitReason bytes m TaskNumber i = ⊥
 AdmitReason bytes m BetweenTicks i = ⊥
@@ -89,10 +90,10 @@ ArriveReason s task TextForm = ⊥
 -- STEP
 abbrev pub StepReason : State → ℕ → ℕ → Answer → Type 0
 StepReason s horizon room NotTogether = ¬ Together s
-StepReason s horizon room RoomTooShort = Together s × (room < 48)
-StepReason s horizon room HorizonPastClock = Together s × (48 ≤ room) × (4294967295 < horizon)
-StepReason s horizon room HorizonNotLater = Together s × (48 ≤ room) × (horizon ≤ 4294967295) × (horizon * s.scale ≤ s.now)
-StepReason s horizon room Done = Together s × (48 ≤ room) × (horizon ≤ 4294967295) × (s.now < horizon * s.scale)
+StepReason s horizon room RoomTooShort = Together s × (room < recordSize)
+StepReason s horizon room HorizonPastClock = Together s × (recordSize ≤ room) × (clock < horizon)
+StepReason s horizon room HorizonNotLater = Together s × (recordSize ≤ room) × (horizon ≤ clock) × (horizon * s.scale ≤ s.now)
+StepReason s horizon room Done = Together s × (recordSize ≤ room) × (horizon ≤ clock) × (s.now < horizon * s.scale)
 StepReason s horizon room Processors = ⊥
 StepReason s horizon room TableLength = ⊥
 StepReason s horizon room RowRange = ⊥

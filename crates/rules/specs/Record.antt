@@ -6,6 +6,7 @@ use lib.ListN.{take, drop, replicate}
 use Rattle.ground.specs.Tests.{if_then_else_}
 use Rattle.ground.specs.Sums.{upFrom}
 use Rattle.ground.specs.Bytes.{le, number}
+use Rattle.rules.specs.Bounds.{slotCount}
 use Rattle.rules.specs.State.{Task, proc}
 
 -- "from and to as 64-bit instants, then sixteen 16-bit slots"
@@ -21,7 +22,7 @@ onProc p i (t ∷ l) = if eqb (proc t) p then i else onProc p (suc i) l
 
 -- "Slots past m are 0."
 unfoldable pub slotsOf : ℕ → List Task → List ℕ
-slotsOf m l = map (λ p. onProc p 1 l) (upFrom 1 m) ++ replicate (16 - m) 0
+slotsOf m l = map (λ p. onProc p 1 l) (upFrom 1 m) ++ replicate (slotCount - m) 0
 
 -- "all least byte first"
 unfoldable pub slotBytes : List ℕ → List ℕ
@@ -38,4 +39,4 @@ slotsFrom (suc n) bytes = number (take 2 bytes) ∷ slotsFrom n (drop 2 bytes)
 
 -- the record that 48 bytes spell
 unfoldable pub readRecord : List ℕ → Record
-readRecord bytes = record { from = number (take 8 bytes); to = number (take 8 (drop 8 bytes)); slots = slotsFrom 16 (drop 16 bytes) }
+readRecord bytes = record { from = number (take 8 bytes); to = number (take 8 (drop 8 bytes)); slots = slotsFrom slotCount (drop 16 bytes) }

@@ -6,6 +6,7 @@ use lib.Dec.{leb}
 use lib.ListN.{length, take, drop}
 use Rattle.ground.specs.Sums.{upFrom}
 use Rattle.ground.specs.Bytes.{le, number}
+use Rattle.rules.specs.Bounds.{mostTicks, rowSize}
 
 -- period p, execution e, relative deadline D, in ticks
 pub record Row : Type 0 where
@@ -18,11 +19,11 @@ abbrev pub wordAt : ℕ → List ℕ → ℕ
 wordAt i bytes = number (take 4 (drop i bytes))
 
 abbrev pub rowAt : List ℕ → ℕ → Row
-rowAt bytes i = record { period = wordAt (12 * i) bytes; exec = wordAt (12 * i + 4) bytes; deadline = wordAt (12 * i + 8) bytes }
+rowAt bytes i = record { period = wordAt (rowSize * i) bytes; exec = wordAt (rowSize * i + 4) bytes; deadline = wordAt (rowSize * i + 8) bytes }
 
 -- "A table is rows of 12 bytes", numbered in row order
 unfoldable pub rowsOf : List ℕ → List Row
-rowsOf bytes = map (rowAt bytes) (upFrom 0 (length bytes / 12))
+rowsOf bytes = map (rowAt bytes) (upFrom 0 (length bytes / rowSize))
 
 -- the bytes of rows
 abbrev pub rowBytes : Row → List ℕ
@@ -38,7 +39,7 @@ shorter r = min r.period r.deadline
 
 -- "p, e, D each 1 to 1,048,576"
 abbrev pub inRange : ℕ → Bool
-inRange x = leb 1 x && leb x 1048576
+inRange x = leb 1 x && leb x mostTicks
 
 abbrev pub rowInRange : Row → Bool
 rowInRange r = inRange r.period && (inRange r.exec && inRange r.deadline)

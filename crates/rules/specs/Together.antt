@@ -6,6 +6,7 @@ use mathlib.Core.List.{List, map}
 use Prim.Native.Nat.{ℕ, _+_, _*_, _-_, _/_, _≤_, _<_}
 use lib.ListN.{length}
 use Rattle.ground.specs.Sums.{sumOf}
+use Rattle.rules.specs.Bounds.{clock, mostProcessors, mostScale, mostTasks, mostTicks}
 use Rattle.rules.specs.Table.{Row, shorter}
 use Rattle.rules.specs.Scale.{scaleOf, shareOf}
 use Rattle.rules.specs.State.{Task, State, at, period, short, isAwake, amount, proc, runs, waits, on, awakeShare}
@@ -14,16 +15,16 @@ abbrev pub Awake : Task → Type 0
 Awake t = isAwake t.cond ≡ true
 
 abbrev pub InRange : ℕ → Type 0
-InRange x = (1 ≤ x) × (x ≤ 1048576)
+InRange x = (1 ≤ x) × (x ≤ mostTicks)
 
 -- "table, m, L and shares pass admission"
 pub record Table (m scale : ℕ) (l : List Task) : Type 0 where
-  pub processors : (1 ≤ m) × (m ≤ 16)
-  pub size : (1 ≤ length l) × (length l ≤ 128)
+  pub processors : (1 ≤ m) × (m ≤ mostProcessors)
+  pub size : (1 ≤ length l) × (length l ≤ mostTasks)
   pub ranges : (j : ℕ) → j < length l → InRange (at j l .row .period) × InRange (at j l .row .exec) × InRange (at j l .row .deadline)
   pub exec : (j : ℕ) → j < length l → at j l .row .exec ≤ short (at j l)
   pub scale-is : scale ≡ scaleOf (map (λ (t : Task). t.row) l)
-  pub scale-most : scale ≤ 134217728
+  pub scale-most : scale ≤ mostScale
   pub share-is : (j : ℕ) → j < length l → at j l .share ≡ shareOf scale (at j l .row)
   pub sum : sumOf (λ (t : Task). t.share) l ≤ m * scale
 
@@ -68,7 +69,7 @@ Plane s (some e) = Going s.m s.scale s.now e s.tasks
 pub record Together (s : State) : Type 0 where
   pub table : Table s.m s.scale s.tasks
   -- "the instant is within the clock"
-  pub clock : s.now ≤ 4294967295 * s.scale
+  pub clock : s.now ≤ clock * s.scale
   pub seats : Seats s.m s.tasks
   pub lasts : Lasts s.scale s.now s.tasks
   pub plane : Plane s s.plane

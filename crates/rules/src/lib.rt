@@ -2,6 +2,23 @@
 ghost use mathlib.Core.Path.{_≡_};
 ghost use Rattle.rules.specs.Answers.{numberOf};
 
+// THE BOUNDS, as `Bounds` has them: where one is used, the proof needs that the two are equal.
+pub const MOST_PROCESSORS: usize = 16;
+
+pub const MOST_TASKS: usize = 128;
+
+pub const MOST_TICKS: u32 = 1048576;
+
+pub const MOST_SCALE: u64 = 134217728;
+
+pub const CLOCK: u64 = 4294967295;
+
+pub const ROW_SIZE: usize = 12;
+
+pub const MOST_BYTES: usize = MOST_TASKS * ROW_SIZE;
+
+pub const RECORD_SIZE: usize = 48;
+
 pub enum Answer {
     Done,
     Processors,

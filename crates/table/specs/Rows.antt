@@ -12,6 +12,7 @@ use Rattle.rules.specs.Table.{Row, wordAt}
 use Rattle.rules.specs.Scale.{scaleOf}
 use Rattle.rules.specs.Admission.{Verdict, faultFrom}
 use Rattle.table.specs.declared.Finding.{Finding}
+use Rattle.rules.specs.Bounds.{mostScale, mostTicks}
 
 -- period, execution and deadline, as a row
 abbrev pub rowOf : ℕ → ℕ → ℕ → Row
@@ -39,11 +40,11 @@ findingOf v = record { answer = v .answer; row = v .row }
 
 -- every q of the first n places is in range
 abbrev pub ShortInRange : List ℕ → List ℕ → ℕ → Type 0
-ShortInRange ps ds n = (i : ℕ) → i < n → (1 ≤ min (getD ps i 0) (getD ds i 0)) × (min (getD ps i 0) (getD ds i 0) ≤ 1048576)
+ShortInRange ps ds n = (i : ℕ) → i < n → (1 ≤ min (getD ps i 0) (getD ds i 0)) × (min (getD ps i 0) (getD ds i 0) ≤ mostTicks)
 
 -- every share of the first n places is within the largest scale
 abbrev pub SharesInRange : List ℕ → ℕ → Type 0
-SharesInRange shares n = (i : ℕ) → i < n → getD shares i 0 ≤ 134217728
+SharesInRange shares n = (i : ℕ) → i < n → getD shares i 0 ≤ mostScale
 
 -- past the first n places there are 0 only
 abbrev pub Filled : List ℕ → ℕ → Type 0
@@ -55,7 +56,7 @@ Faultless rows = isDone (faultFrom 1 rows .answer) ≡ true
 
 -- the scale, or 0 where it is above 134,217,728
 unfoldable pub boundedScale : List Row → ℕ
-boundedScale rows = if ltb 134217728 (scaleOf rows) then 0 else scaleOf rows
+boundedScale rows = if ltb mostScale (scaleOf rows) then 0 else scaleOf rows
 
 -- the sum of the first n shares
 abbrev pub shareSumOf : List ℕ → ℕ → ℕ

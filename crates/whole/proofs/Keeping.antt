@@ -27,6 +27,7 @@ use Rattle.plane.specs.Work.{atTime, eventsOf, nextOf}
 use Rattle.plane.proofs.Arriving.{CanArrive, arrived-view}
 use Rattle.plane.proofs.Step.{InPlane, CanStep, moved-view}
 use Rattle.whole.specs.Whole.{Whole}
+use Rattle.rules.specs.Bounds.{clock}
 
 -- WHAT STAYS
 -- the tasks' count, shares and rows are the table's
@@ -153,7 +154,7 @@ pub record Steps (s : State) (h : ℕ) : Type 0 where
   pub rec-is : movedOf s h .rec ≡ moving (view s) h .rec
   pub whole : Whole (movedOf s h .state)
 
-pub step-whole : (s : State) (h : ℕ) → Whole s → s .now .0 < h * s .table .scale → h ≤ 4294967295 → Steps s h
+pub step-whole : (s : State) (h : ℕ) → Whole s → s .now .0 < h * s .table .scale → h ≤ clock → Steps s h
 step-whole s h W lt hc =
     let M = moved-view s h (W .sound) (can-step s W) lt in
     let K = moved-same s h in

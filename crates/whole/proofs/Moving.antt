@@ -30,6 +30,7 @@ use Rattle.floor.proofs.Ready.{events-ready, came-ready}
 use Rattle.whole.specs.Whole.{Whole, Settles}
 use Rattle.whole.proofs.Keeping.{can-step}
 use Rattle.whole.proofs.Opening.{end-small, instant-small}
+use Rattle.rules.specs.Bounds.{clock}
 
 -- an open plane, as the rules know it
 pub plane-runs : (s : State) → Whole s → s .going ≡ true → Running (s .table .m) (s .table .scale) (s .now .0) (s .end) (tasksAt s)
@@ -81,8 +82,8 @@ moved-on s to e = sym (ap (λ b. if b then closedOf s to else withWork s (events
 
 -- A STEP
 -- the stop fits 64 bits
-pub stop-fits : (s : State) (h : ℕ) → Whole s → h ≤ 4294967295 → h * s .table .scale < 18446744073709551616
-stop-fits s h W hc = instant-small h (s .table .scale) (let b : 4294967295 ≤ 4297064447 = lit≤ tt in omega arith) (W .together .table .scale-most)
+pub stop-fits : (s : State) (h : ℕ) → Whole s → h ≤ clock → h * s .table .scale < 18446744073709551616
+stop-fits s h W hc = instant-small h (s .table .scale) (let b : clock ≤ 4297064447 = lit≤ tt in omega arith) (W .together .table .scale-most)
 
 -- the opened state has the same table and present
 pub opened-terms : (s : State) → Whole s → (openedOf s .table ≡ s .table) × (openedOf s .now .0 ≡ s .now .0)

@@ -36,10 +36,11 @@ use Rattle.floor.specs.Rows.{Came}
 use Rattle.floor.proofs.Ready.{came-ready, open-ready}
 use Rattle.whole.specs.Whole.{Whole}
 use Rattle.whole.proofs.Keeping.{tasks-count, order-kept, opened-table, sized-by, shares-fit, can-step}
+use Rattle.rules.specs.Bounds.{clock, mostScale, mostTicks}
 
 -- BOUNDS
 -- a plane's end lies at most two periods past the clock
-pub end-small : {m scale now e : ℕ} (l : List Task) → Running m scale now e l → now ≤ 4294967295 * scale → e ≤ 4297064447
+pub end-small : {m scale now e : ℕ} (l : List Task) → Running m scale now e l → now ≤ clock * scale → e ≤ 4297064447
 end-small {m} {scale} {now} {e} l P h = go (isAwake (at 0 l .cond)) refl
   where
     F : Facts m scale l
@@ -48,24 +49,24 @@ end-small {m} {scale} {now} {e} l P h = go (isAwake (at 0 l .cond)) refl
     some : 0 < length l
     some = F .size
 
-    q-small : short (at 0 l) ≤ 1048576
+    q-small : short (at 0 l) ≤ mostTicks
     q-small = let r = P .table .ranges 0 some in let a = r .0 .1 in omega arith
 
-    last-small : at 0 l .arrived ≡ true → at 0 l .last ≤ 4294967295
+    last-small : at 0 l .arrived ≡ true → at 0 l .last ≤ clock
     last-small a = le-of-mul-le-mul-right (omega (arith, P .lasts .came 0 a)) (F .scale-pos)
 
     go : (b : Bool) → isAwake (at 0 l .cond) ≡ b → e ≤ 4297064447
     go true w = omega (arith, P .going .due 0 w, last-small (P .lasts .known 0 w), q-small)
     go false w =
         let p-small = P .table .ranges 0 some .0 .1 in
-        let t = 4294967295 + 1048576 in
-        let late : now ≤ t * scale = let le : 4294967295 ≤ 4294967295 + 1048576 = lit≤ tt in omega (arith, mul-le-mul-right scale le) in
+        let t = clock + mostTicks in
+        let late : now ≤ t * scale = let le : clock ≤ clock + mostTicks = lit≤ tt in omega (arith, mul-le-mul-right scale le) in
         omega (arith, P .going .free 0 some (λ v. not-both ⊥ (sym w ∙ v)) t late (λ a. omega (arith, last-small a, p-small)), q-small)
 
 -- so its end as an instant fits 64 bits
-pub instant-small : (e scale : ℕ) → e ≤ 4297064447 → scale ≤ 134217728 → e * scale < 18446744073709551616
+pub instant-small : (e scale : ℕ) → e ≤ 4297064447 → scale ≤ mostScale → e * scale < 18446744073709551616
 instant-small e scale h k =
-    let b : 4297064447 * 134217728 < 18446744073709551616 = lit< tt in
+    let b : 4297064447 * mostScale < 18446744073709551616 = lit< tt in
     omega (arith, mul-le-mul-right scale h, mul-le-mul-left 4297064447 k)
 
 -- OPENED

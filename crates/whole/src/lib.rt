@@ -13,6 +13,7 @@ ghost use Rattle.plane.specs.View.{view};
 ghost use Rattle.floor.specs.Rows.{Came};
 ghost use Rattle.whole.specs.Whole.{Whole, Settles};
 ghost use Rattle.whole.specs.Lent.{here};
+ghost use Rattle.rules.specs.Bounds.{clock};
 use floor::Head;
 use ground::Amount;
 use ground::Instant;
@@ -302,7 +303,7 @@ pub fn step_in(
     slots: &mut [u16; 16],
     room: &mut [u8],
 ) -> Moment
-    requires ready { ⌜ Whole (here terms moment period exec deadline share order awake arrived last rk rt wk wt slots) × (moment .now .0 < horizon * terms .scale) × (horizon ≤ 4294967295) × (48 ≤ length (now room)) ⌝ }
+    requires ready { ⌜ Whole (here terms moment period exec deadline share order awake arrived last rk rt wk wt slots) × (moment .now .0 < horizon * terms .scale) × (horizon ≤ clock) × (48 ≤ length (now room)) ⌝ }
     ensures is { λ r. ⌜ (here terms r (period .entry) (exec .entry) (deadline .entry) (share .entry) (order .entry) (awake .exit) (arrived .entry) (last .entry) (rk .exit) (rt .exit) (wk .exit) (wt .exit) (slots .exit) ≡ movedOf (here terms moment (period .entry) (exec .entry) (deadline .entry) (share .entry) (order .entry) (awake .entry) (arrived .entry) (last .entry) (rk .entry) (rt .entry) (wk .entry) (wt .entry) (slots .entry)) horizon .state)
         × (now (room .exit) ≡ recordBytes (movedOf (here terms moment (period .entry) (exec .entry) (deadline .entry) (share .entry) (order .entry) (awake .entry) (arrived .entry) (last .entry) (rk .entry) (rt .entry) (wk .entry) (wt .entry) (slots .entry)) horizon .rec) ++ drop 48 (now (room .entry))) ⌝ }
 {

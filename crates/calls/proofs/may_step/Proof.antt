@@ -9,6 +9,7 @@ use Rattle.whole.proofs.Moving.{stop-fits}
 use Rattle.calls.proofs.Answering.{answer-13, answer-12, answer-10, answer-11, answer-0}
 use Rattle.calls.proofs.may_step.Statement.{statement}
 use Rattle.calls.proofs.may_step.Tie as tie
+use Rattle.rules.specs.Bounds.{clock}
 
 returns : tie.Need-returns
 returns c =
@@ -51,7 +52,7 @@ returns-5 c =
     let a = e .before .before .args in
     let h = sym (e .before .check .ensures .0) ∙ not-false _ (e .if1 .left) in
     let later : a .moment .now .0 < a .horizon * a .terms .scale = omega (arith, c .if4 .left) in
-    let clock : a .horizon ≤ 4294967295 = omega (arith, p .if3 .left) in
+    let clock : a .horizon ≤ clock = omega (arith, p .if3 .left) in
     let space : 48 ≤ a .len = omega (arith, p .before .if2 .left) in
     (answer-0 _ (a .horizon) (a .len) h space clock later, λ d. record { whole = e .before .check .ensures .1 (not-false _ (e .if1 .left)); ahead = later; clock = clock; space = space })
 

@@ -15,6 +15,7 @@ use Rattle.holding.proofs.Tables.{scale-low, table-ok-says}
 use borrow.Author.Needs.{needs}
 use Rattle.holding.proofs.holds_lent.Statement.{statement}
 use Rattle.holding.proofs.holds_lent.Tie as tie
+use Rattle.rules.specs.Bounds.{clock}
 
 returns : tie.Need-returns
 returns c =
@@ -54,7 +55,7 @@ returns-3 c =
     let a = c .before .before .before .before .before .before .args in
     let t = tableOf (a .period .now) (a .exec .now) (a .deadline .now) (a .share .now) (a .order .now) (a .count) (a .m) (a .scale) in
     let s = stateOf t (a .present .0) (a .going) (a .end) (a .awake .now) (a .arrived .now) (a .last .now) (at (a .rk .now) (a .rt .now) (a .rn)) (at (a .wk .now) (a .wt .now) (a .wn)) (a .slots .now) in
-    let k = lt-leb (a .present .0) (4294967295 * a .scale) (c .if3 .taken) in
+    let k = lt-leb (a .present .0) (clock * a .scale) (c .if3 .taken) in
     sym (clock-fails s k)
 
 div-lasts-ok : tie.Need-div-lasts-ok
@@ -97,7 +98,7 @@ returns-5 c =
     let s = stateOf t (a .present .0) (a .going) (a .end) (a .awake .now) (a .arrived .now) (a .last .now) (at (a .rk .now) (a .rt .now) (a .rn)) (at (a .wk .now) (a .wt .now) (a .wn)) (a .slots .now) in
     let e : tableOk t ≡ true = sym (c .before .before .before .before .before .before .before .before .before .before .table-ok .ensures) ∙ not-false _ (c .before .before .before .before .before .before .before .before .before .if1 .left) in
     let o : orderOk t ≡ true = sym (c .before .before .before .before .before .before .before .before .order-ok .ensures) ∙ not-false _ (c .before .before .before .before .before .before .before .if2 .left) in
-    let k = le-leb (a .present .0) (4294967295 * a .scale) (c .before .before .before .before .before .if3 .left) in
+    let k = le-leb (a .present .0) (clock * a .scale) (c .before .before .before .before .before .if3 .left) in
     let l : lastsOk (a .arrived .now) (a .awake .now) (a .last .now) (a .present .0 / a .scale) (a .count) ≡ true = sym (c .before .before .before .lasts-ok .ensures) ∙ not-false _ (c .before .before .if4 .left) in
     c .open-ok .ensures ∙ sym (open-decides s e o k l (c .before .if5 .taken))
 
@@ -118,7 +119,7 @@ returns-6 c =
     let s = stateOf t (a .present .0) (a .going) (a .end) (a .awake .now) (a .arrived .now) (a .last .now) (at (a .rk .now) (a .rt .now) (a .rn)) (at (a .wk .now) (a .wt .now) (a .wn)) (a .slots .now) in
     let e : tableOk t ≡ true = sym (c .before .before .before .before .before .before .before .before .before .before .table-ok .ensures) ∙ not-false _ (c .before .before .before .before .before .before .before .before .before .if1 .left) in
     let o : orderOk t ≡ true = sym (c .before .before .before .before .before .before .before .before .order-ok .ensures) ∙ not-false _ (c .before .before .before .before .before .before .before .if2 .left) in
-    let k = le-leb (a .present .0) (4294967295 * a .scale) (c .before .before .before .before .before .if3 .left) in
+    let k = le-leb (a .present .0) (clock * a .scale) (c .before .before .before .before .before .if3 .left) in
     let l : lastsOk (a .arrived .now) (a .awake .now) (a .last .now) (a .present .0 / a .scale) (a .count) ≡ true = sym (c .before .before .before .lasts-ok .ensures) ∙ not-false _ (c .before .before .if4 .left) in
     c .closed-ok .ensures (a .end * a .scale) ∙ sym (closed-decides s e o k l (c .before .if5 .left))
 

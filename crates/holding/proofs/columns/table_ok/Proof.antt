@@ -12,6 +12,7 @@ use Rattle.holding.proofs.Folds.{and-first, and-next}
 use borrow.Author.Needs.{needs}
 use Rattle.holding.proofs.columns.table_ok.Statement.{statement}
 use Rattle.holding.proofs.columns.table_ok.Tie as tie
+use Rattle.rules.specs.Bounds.{mostScale}
 
 returns : tie.Need-returns
 unfolding tableOk
@@ -47,7 +48,7 @@ returns-4 c =
     ∙ and-first (scaleInRange (a .scale)) _ (sym (c .before .scale-in-range .ensures) ∙ not-true _ (c .if4 .taken)))
 
 scale-ok-requires : tie.Need-scale-ok-requires
-scale-ok-requires c κs = let a = c .before .before .before .before .before .before .before .before .args in (within 1 (a .count) 128 (sym (c .before .before .before .before .before .count-ok .ensures) ∙ not-false _ (c .before .before .before .before .if2 .left)) .1, within 1 (a .scale) 134217728 (sym (c .before .scale-in-range .ensures) ∙ not-false _ (c .if4 .left)) .1, (sym (c .before .before .before .rows-ok .ensures) ∙ not-false _ (c .before .before .if3 .left)))
+scale-ok-requires c κs = let a = c .before .before .before .before .before .before .before .before .args in (within 1 (a .count) 128 (sym (c .before .before .before .before .before .count-ok .ensures) ∙ not-false _ (c .before .before .before .before .if2 .left)) .1, within 1 (a .scale) mostScale (sym (c .before .scale-in-range .ensures) ∙ not-false _ (c .if4 .left)) .1, (sym (c .before .before .before .rows-ok .ensures) ∙ not-false _ (c .before .before .if3 .left)))
 
 returns-5 : tie.Need-returns-5
 unfolding tableOk
@@ -63,13 +64,13 @@ share-sum-requires : tie.Need-share-sum-requires
 share-sum-requires c κs =
     let a = c .before .before .before .before .before .before .before .before .before .before .args in (
       within 1 (a .count) 128 (sym (c .before .before .before .before .before .before .before .count-ok .ensures) ∙ not-false _ (c .before .before .before .before .before .before .if2 .left)) .1,
-      λ i h. let x = share-small (a .scale) (a .period .now) (a .exec .now) (a .deadline .now) (a .share .now) (a .count) i (sym (c .before .before .before .before .before .rows-ok .ensures) ∙ not-false _ (c .before .before .before .before .if3 .left)) (sym (c .before .scale-ok .ensures) ∙ not-false _ (c .if5 .left)) h in omega (arith, within 1 (a .scale) 134217728 (sym (c .before .before .before .scale-in-range .ensures) ∙ not-false _ (c .before .before .if4 .left)) .1),
+      λ i h. let x = share-small (a .scale) (a .period .now) (a .exec .now) (a .deadline .now) (a .share .now) (a .count) i (sym (c .before .before .before .before .before .rows-ok .ensures) ∙ not-false _ (c .before .before .before .before .if3 .left)) (sym (c .before .scale-ok .ensures) ∙ not-false _ (c .if5 .left)) h in omega (arith, within 1 (a .scale) mostScale (sym (c .before .before .before .scale-in-range .ensures) ∙ not-false _ (c .before .before .if4 .left)) .1),
     )
 
 mul-result : tie.Need-mul-result
 mul-result c =
     let a = c .before .before .before .before .before .before .before .before .before .before .before .args in
-    omega (arith, most-fits (a .m) (a .scale) (within 1 (a .m) 16 (sym (c .before .before .before .before .before .before .before .before .before .before .processors-ok .ensures) ∙ not-false _ (c .before .before .before .before .before .before .before .before .before .if1 .left)) .1) (within 1 (a .scale) 134217728 (sym (c .before .before .before .before .scale-in-range .ensures) ∙ not-false _ (c .before .before .before .if4 .left)) .1))
+    omega (arith, most-fits (a .m) (a .scale) (within 1 (a .m) 16 (sym (c .before .before .before .before .before .before .before .before .before .before .processors-ok .ensures) ∙ not-false _ (c .before .before .before .before .before .before .before .before .before .if1 .left)) .1) (within 1 (a .scale) mostScale (sym (c .before .before .before .before .scale-in-range .ensures) ∙ not-false _ (c .before .before .before .if4 .left)) .1))
 
 returns-6 : tie.Need-returns-6
 unfolding tableOk

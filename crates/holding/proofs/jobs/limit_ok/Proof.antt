@@ -8,9 +8,10 @@ use Rattle.holding.proofs.Bounds.{soonest-small}
 use borrow.Author.Needs.{needs}
 use Rattle.holding.proofs.jobs.limit_ok.Statement.{statement}
 use Rattle.holding.proofs.jobs.limit_ok.Tie as tie
+use Rattle.rules.specs.Bounds.{clock}
 
 add-result : tie.Need-add-result
-add-result c = let a = c .before .before .before .args in let h : a .last ≤ 4294967295 = c .before .before .before .pre .0 (c .if1 .taken) in let q = c .before .wide .ensures ∙ c .before .before .shorter .ensures in let f = c .before .before .before .fits in omega arith
+add-result c = let a = c .before .before .before .args in let h : a .last ≤ clock = c .before .before .before .pre .0 (c .if1 .taken) in let q = c .before .wide .ensures ∙ c .before .before .shorter .ensures in let f = c .before .before .before .fits in omega arith
 
 returns : tie.Need-returns
 returns c = let a = c .before .before .before .args in rw (c .if1 .taken) (ap (λ (x : ℕ). leb (a .end) (a .last + x)) (c .before .wide .ensures ∙ c .before .before .shorter .ensures))

@@ -6,9 +6,10 @@ use lib.Dec.{ltb}
 use borrow.Author.Needs.{needs}
 use Rattle.holding.proofs.jobs.rest_ok.Statement.{statement}
 use Rattle.holding.proofs.jobs.rest_ok.Tie as tie
+use Rattle.rules.specs.Bounds.{clock}
 
 add-result : tie.Need-add-result
-add-result c = let a = c .before .before .before .args in let h : a .last ≤ 4294967295 = c .before .before .before .pre (c .before .before .if1 .taken) in let q = c .wide .ensures ∙ c .before .shorter .ensures in let f = c .before .before .before .fits in omega arith
+add-result c = let a = c .before .before .before .args in let h : a .last ≤ clock = c .before .before .before .pre (c .before .before .if1 .taken) in let q = c .wide .ensures ∙ c .before .shorter .ensures in let f = c .before .before .before .fits in omega arith
 
 returns : tie.Need-returns
 returns c = let a = c .before .before .before .args in rw (c .before .before .if1 .taken) (ap (λ (x : ℕ). ltb (a .tick) (a .last + x)) (c .wide .ensures ∙ c .before .shorter .ensures))

@@ -4,9 +4,10 @@ use native.Mathlib.Omega.{arith}
 use borrow.Author.Needs.{needs}
 use Rattle.holding.proofs.jobs.soonest.Statement.{statement}
 use Rattle.holding.proofs.jobs.soonest.Tie as tie
+use Rattle.rules.specs.Bounds.{clock}
 
 add-next : tie.Need-add-next
-add-next c = let a = c .before .before .args in let h : a .last ≤ 4294967295 = c .before .before .pre (c .before .if1 .taken) in let q = c .wide .ensures in let f = c .before .before .fits in omega arith
+add-next c = let a = c .before .before .args in let h : a .last ≤ clock = c .before .before .pre (c .before .if1 .taken) in let q = c .wide .ensures in let f = c .before .before .fits in omega arith
 
 returns : tie.Need-returns
 returns c = let q = c .before .wide .ensures in let h = c .if2 .taken in rw (c .before .before .if1 .taken) (omega arith)

@@ -12,6 +12,7 @@ use Rattle.holding.specs.Clauses.{awakeSum}
 use borrow.Author.Needs.{needs}
 use Rattle.holding.proofs.keys.awake_sum.Statement.{statement}
 use Rattle.holding.proofs.keys.awake_sum.Tie as tie
+use Rattle.rules.specs.Bounds.{mostScale}
 
 abbrev Inv-loop : tie.InvT-loop
 Inv-loop awake share count sum₀ i₀ sum i = (i ≤ count) × (sum ≡ awakeSum awake share i)
@@ -28,7 +29,7 @@ add-sum c =
     let p = c .before .before .before .before .before .pre in
     let k = c .before .before .before .before .loop in
     let e = c .part .ensures in
-    omega (arith, k .inv .1, sum-fits (λ j. if getD (a .awake .now) j false then getD (a .share .now) j 0 else 0) 134217728 (k .i) (omega arith) (λ j h. omega (arith, p .1 j (omega arith), if-small (getD (a .awake .now) j false) (getD (a .share .now) j 0))))
+    omega (arith, k .inv .1, sum-fits (λ j. if getD (a .awake .now) j false then getD (a .share .now) j 0 else 0) mostScale (k .i) (omega arith) (λ j h. omega (arith, p .1 j (omega arith), if-small (getD (a .awake .now) j false) (getD (a .share .now) j 0))))
 
 loop-again : tie.Need-loop-again Inv-loop μ-loop
 loop-again c =
