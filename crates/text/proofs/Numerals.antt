@@ -13,7 +13,7 @@ use Rattle.ground.specs.Tests.{every}
 use Rattle.ground.proofs.Tests.{of-true, and-says, leb-says}
 use Rattle.text.specs.declared.Numeral.the-variants.{Value, Nothing}
 use Rattle.text.specs.Parts.{same}
-use Rattle.text.specs.Numbers.{isDigit, plain, spelledAfter, spelled, numeralOf}
+use Rattle.text.specs.Numbers.{mostNumber, isDigit, plain, spelledAfter, spelled, numeralOf}
 
 -- words of two lengths differ
 pub same-length : (a b : List ℕ) → (length a ≡ length b → ⊥) → same a b ≡ false
@@ -81,13 +81,13 @@ pub not-digits : (p : List ℕ) → every isDigit p ≡ false → numeralOf p �
 unfolding numeralOf
 not-digits p e = rw (e, and-false (plain p))
 
-pub too-large : (p : List ℕ) → 4294967295 < spelled p → numeralOf p ≡ Nothing
+pub too-large : (p : List ℕ) → mostNumber < spelled p → numeralOf p ≡ Nothing
 unfolding numeralOf
-too-large p h = rw (lt-leb (spelled p) 4294967295 h, and-false (every isDigit p), and-false (plain p))
+too-large p h = rw (lt-leb (spelled p) mostNumber h, and-false (every isDigit p), and-false (plain p))
 
-pub a-number : (p : List ℕ) (v : ℕ) → plain p ≡ true → every isDigit p ≡ true → spelled p ≡ v → v ≤ 4294967295 → numeralOf p ≡ Value v
+pub a-number : (p : List ℕ) (v : ℕ) → plain p ≡ true → every isDigit p ≡ true → spelled p ≡ v → v ≤ mostNumber → numeralOf p ≡ Value v
 unfolding numeralOf
-a-number p v e d s h = rw (e, d, s, le-leb v 4294967295 h)
+a-number p v e d s h = rw (e, d, s, le-leb v mostNumber h)
 
 -- what `plain` says, by the length
 pub plain-none : (p : List ℕ) → length p ≡ 0 → plain p ≡ false

@@ -10,7 +10,7 @@ use lib.Dec.{ltb}
 use Rattle.ground.specs.Tests.{if_then_else_, every, Says}
 use Rattle.ground.proofs.Tests.{ltb-says}
 use Rattle.text.specs.declared.Numeral.the-variants.{Value}
-use Rattle.text.specs.Numbers.{isDigit, plain, spelledAfter, spelled, numeralOf, digits, decimalOf}
+use Rattle.text.specs.Numbers.{mostNumber, isDigit, plain, spelledAfter, spelled, numeralOf, digits, decimalOf}
 use Rattle.text.proofs.Numerals.{a-number}
 use Rattle.text.proofs.Decimals.{Enough, enough-less, digits-last, digits-more, tenth}
 
@@ -94,6 +94,6 @@ decimal-spells x h = spelled-digits 20 x (enough x h)
 pub decimal-plain : (x : ℕ) → x < 18446744073709551616 → plain (decimalOf x) ≡ true
 decimal-plain x h = plain-digits 20 x (enough x h)
 
-pub decimal-reads : (x : ℕ) → x ≤ 4294967295 → numeralOf (decimalOf x) ≡ Value x
+pub decimal-reads : (x : ℕ) → x ≤ mostNumber → numeralOf (decimalOf x) ≡ Value x
 decimal-reads x h =
     let k : x < 18446744073709551616 = omega arith in a-number (decimalOf x) x (decimal-plain x k) (every-digits 20 x) (decimal-spells x k) h

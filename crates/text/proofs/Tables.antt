@@ -19,20 +19,20 @@ use Rattle.text.specs.declared.Numeral.{Numeral}
 use Rattle.text.specs.declared.Numeral.the-variants.{Value, Nothing}
 use Rattle.text.specs.declared.Item.the-variants.{Processors, Task, Arrive, Until, Other}
 use Rattle.text.specs.Parts.{same, linesOf, partsOf}
-use Rattle.text.specs.Numbers.{isDigit, plain, spelled, numeralOf}
+use Rattle.text.specs.Numbers.{mostNumber, isDigit, plain, spelled, numeralOf}
 use Rattle.text.specs.Lines.{processorsWord, taskWord, arriveWord, untilWord, withOne, withTwo, withThree, ofParts, itemOf}
 use Rattle.text.specs.Meaning.{itemsOf, rowBy, rowsIn, tableOf}
 
 -- each number of a text fits 32 bits
 abbrev NumeralFits : Numeral → Type 0
-NumeralFits (Value x) = x ≤ 4294967295
+NumeralFits (Value x) = x ≤ mostNumber
 NumeralFits Nothing = Unit {0}
 
 numeral-fits : (p : List ℕ) → NumeralFits (numeralOf p)
 unfolding numeralOf
-numeral-fits p = go (plain p) (every isDigit p) (leb (spelled p) 4294967295) (λ e. of-true (leb (spelled p) 4294967295) (leb-says (spelled p) 4294967295) e)
+numeral-fits p = go (plain p) (every isDigit p) (leb (spelled p) mostNumber) (λ e. of-true (leb (spelled p) mostNumber) (leb-says (spelled p) mostNumber) e)
   where
-    go : (a b c : Bool) → (c ≡ true → spelled p ≤ 4294967295) → NumeralFits (if a && (b && c) then Value (spelled p) else Nothing)
+    go : (a b c : Bool) → (c ≡ true → spelled p ≤ mostNumber) → NumeralFits (if a && (b && c) then Value (spelled p) else Nothing)
     go true true true f = f refl
     go true true false f = tt
     go true false c f = tt

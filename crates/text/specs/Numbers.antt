@@ -26,8 +26,11 @@ plain (b ∷ []) = true
 plain (b ∷ d ∷ l) = not (eqb b 48)
 
 -- "at most 4,294,967,295"
+abbrev pub mostNumber : ℕ
+mostNumber = 4294967295
+
 abbrev pub isNumber : List ℕ → Bool
-isNumber part = plain part && (every isDigit part && leb (spelled part) 4294967295)
+isNumber part = plain part && (every isDigit part && leb (spelled part) mostNumber)
 
 -- the number that a part is, if it is one
 unfoldable pub numeralOf : List ℕ → Numeral

@@ -4,7 +4,7 @@ ghost use mathlib.Core.Bool.{true, false};
 ghost use Prim.Native.Nat.{ℕ, _+_, _-_, _*_, _≤_, _<_};
 ghost use lib.ListN.{length, take, drop, getD};
 ghost use Rattle.text.specs.Parts.{firstAt, same, splitBy, newline, space};
-ghost use Rattle.text.specs.Numbers.{isDigit, plain, numeralOf, decimalOf};
+ghost use Rattle.text.specs.Numbers.{mostNumber, isDigit, plain, numeralOf, decimalOf};
 ghost use Rattle.text.specs.Lines.{withOne, withTwo, withThree, itemOf};
 ghost use Rattle.text.specs.Form.{mayStand, stageAfter, formFrom, formOf};
 ghost use mathlib.Core.List.{[], _∷_, _++_};
@@ -82,9 +82,12 @@ fn is_digit(b: u8) -> bool
     false
 }
 
+// The largest number of a text.
+const MOST_NUMBER: u64 = 4294967295;
+
 // The number that v and one digit more spell.
 fn with_digit(v: u64, b: u8) -> u64
-    requires digit { ⌜ (v ≤ 4294967295) × (isDigit b ≡ true) ⌝ }
+    requires digit { ⌜ (v ≤ mostNumber) × (isDigit b ≡ true) ⌝ }
     ensures is { λ r. ⌜ r ≡ 10 * v + (b - 48) ⌝ }
 {
     let d = b - 48;
@@ -120,7 +123,7 @@ pub fn number(part: &[u8]) -> Numeral
             return Numeral::Nothing;
         }
         v = with_digit(v, b);
-        if 4294967295 < v {
+        if MOST_NUMBER < v {
             return Numeral::Nothing;
         }
         i += 1;

@@ -6,13 +6,13 @@ use lib.ListN.{length, drop}
 use borrow.Author.Tests.{not-true, not-false}
 use borrow.Author.Needs.{needs}
 use Rattle.ground.specs.Tests.{every}
-use Rattle.text.specs.Numbers.{isDigit, plain, spelled, spelledAfter}
+use Rattle.text.specs.Numbers.{mostNumber, isDigit, plain, spelled, spelledAfter}
 use Rattle.text.proofs.Numerals.{every-on, every-stop, every-end, spelled-on, spelled-end, spelled-more, not-plain, not-digits, too-large, a-number}
 use Rattle.text.proofs.number.Statement.{statement}
 use Rattle.text.proofs.number.Tie as tie
 
 abbrev Inv-loop : tie.InvT-loop
-Inv-loop part v₀ i₀ v i = (i ≤ length part) × (v ≤ 4294967295) × (plain part ≡ true) × (every isDigit (drop i part) ≡ every isDigit part) × (spelledAfter v (drop i part) ≡ spelled part)
+Inv-loop part v₀ i₀ v i = (i ≤ length part) × (v ≤ mostNumber) × (plain part ≡ true) × (every isDigit (drop i part) ≡ every isDigit part) × (spelledAfter v (drop i part) ≡ spelled part)
 
 abbrev μ-loop : tie.MeasureT-loop
 μ-loop part v₀ i₀ v i = length part - i
