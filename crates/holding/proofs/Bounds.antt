@@ -15,8 +15,8 @@ use Rattle.ground.proofs.Tests.{leb-says, of-true}
 use Rattle.rules.specs.Scale.{shareOf}
 use Rattle.rules.proofs.Scale.{share-at-most}
 use Rattle.queue.specs.declared.Queue.{Queue}
-use Rattle.plane.specs.Sound.{noMarks, allMarked, members, queueOk}
-use Rattle.holding.specs.Clauses.{runsOk, waitsOk, slotsOk, membersOk, soundBy, lastOk, lastsOk, runAmountsOk, waitAmountsOk, runSum, waitSum, awakeSum, ceilOf, soonestOf, limitOk, limitsOk, Near, Ready}
+use Rattle.plane.specs.Sound.{noMarks, allMarked, members, queueOk, runsOk, waitsOk, slotsOk, membersOk, soundBy}
+use Rattle.holding.specs.Clauses.{lastOk, lastsOk, runAmountsOk, waitAmountsOk, runSum, waitSum, awakeSum, ceilOf, soonestOf, limitOk, limitsOk, Near, Ready}
 use Rattle.holding.specs.Tables.{rowOk, rowsOk, shareOk, sharesOk, scaleOk}
 use Rattle.holding.proofs.Tables.{row-ok-says}
 use Rattle.holding.proofs.Folds.{and-both, all-none, all-at, sum-more, sum-bound, sum-mono}

@@ -1,32 +1,23 @@
 -- The test in the order in which the code decides it: table, order, instant, last arrivals, and then the plane
-use mathlib.Core.Path.{_≡_, refl, _∙_, ap}
+use mathlib.Core.Path.{_≡_, _∙_, ap}
 use mathlib.Core.Bool.{Bool, true, false, _&&_}
 use mathlib.Core.List.{List}
-use Prim.Native.Nat.{ℕ, _*_, _-_, _/_, _≤_}
+use Prim.Native.Nat.{ℕ, _*_, _/_, _≤_}
 use native.Mathlib.Omega.{arith}
 use Rattle.table.specs.declared.Table.{Table}
 use Rattle.plane.specs.declared.State.{State}
 use Rattle.ground.specs.Tests.{if_then_else_}
 use Rattle.ground.proofs.Tests.{of-true}
 use Rattle.rules.proofs.Scale.{share-at-most}
-use Rattle.plane.specs.Machine.{endAt}
-use Rattle.plane.specs.Sound as Sound
+use Rattle.plane.specs.Sound.{soundOf}
 use Rattle.plane.specs.View.{rowOf}
-use Rattle.holding.specs.Clauses.{runsOk, waitsOk, slotsOk, membersOk, soundBy, lastsOk, Ready}
+use Rattle.holding.specs.Clauses.{lastsOk, Ready}
 use Rattle.holding.specs.Holds.{clockOk, closedOk, openOk, planeOk, arrivalsOk, holdsOf}
 use Rattle.holding.specs.Tables.{tableOk, orderOk}
 use Rattle.holding.proofs.Bounds.{most-fits}
 use Rattle.holding.proofs.Folds.{and-first, and-next, second-fails, second-holds}
 use Rattle.holding.proofs.Tables.{scale-low, table-ok-says}
 use Rattle.rules.specs.Bounds.{clock}
-
--- the state's own test of its queues, flags and slots, over its parts
-abbrev pub soundIn : State → Bool
-soundIn s = soundBy (s .table .count) (s .table .m) (s .now .0) (endAt s) (s .jobs .awake) (s .running) (s .waiting) (s .slots)
-
-pub sound-parts : (s : State) → Sound.soundOf s ≡ soundIn s
-unfolding Sound.soundOf Sound.entriesOk Sound.membersOk soundBy runsOk waitsOk slotsOk membersOk
-sound-parts s = refl
 
 module _ (s : State) where
   pub table-fails : tableOk (s .table) ≡ false → holdsOf s ≡ false
@@ -36,7 +27,7 @@ module _ (s : State) where
   pub order-fails : orderOk (s .table) ≡ false → holdsOf s ≡ false
   unfolding holdsOf
   order-fails e =
-      second-fails (tableOk (s .table)) _ (second-fails (clockOk s) _ (second-fails (Sound.soundOf s) _ (second-fails (planeOk s) _ (second-fails (arrivalsOk s) _ e))))
+      second-fails (tableOk (s .table)) _ (second-fails (clockOk s) _ (second-fails (soundOf s) _ (second-fails (planeOk s) _ (second-fails (arrivalsOk s) _ e))))
 
   pub clock-fails : clockOk s ≡ false → holdsOf s ≡ false
   unfolding holdsOf
@@ -44,21 +35,20 @@ module _ (s : State) where
 
   pub arrivals-fail : arrivalsOk s ≡ false → holdsOf s ≡ false
   unfolding holdsOf
-  arrivals-fail e = second-fails (tableOk (s .table)) _ (second-fails (clockOk s) _ (second-fails (Sound.soundOf s) _ (second-fails (planeOk s) _ (and-first (arrivalsOk s) _ e))))
+  arrivals-fail e = second-fails (tableOk (s .table)) _ (second-fails (clockOk s) _ (second-fails (soundOf s) _ (second-fails (planeOk s) _ (and-first (arrivalsOk s) _ e))))
 
   module _ (t : tableOk (s .table) ≡ true) (o : orderOk (s .table) ≡ true) (k : clockOk s ≡ true) (l : arrivalsOk s ≡ true) where
-    the-plane : holdsOf s ≡ soundIn s && planeOk s
+    the-plane : holdsOf s ≡ soundOf s && planeOk s
     unfolding holdsOf
     the-plane =
         and-next (tableOk (s .table)) _ t ∙ and-next (clockOk s) _ k
-        ∙ ap (λ (b : Bool). Sound.soundOf s && b) (second-holds (planeOk s) _ (and-next (arrivalsOk s) _ l ∙ o))
-        ∙ ap (λ (b : Bool). b && planeOk s) (sound-parts s)
+        ∙ ap (λ (b : Bool). soundOf s && b) (second-holds (planeOk s) _ (and-next (arrivalsOk s) _ l ∙ o))
 
-    pub open-decides : s .going ≡ true → holdsOf s ≡ soundIn s && openOk s
-    open-decides g = the-plane ∙ ap (λ (b : Bool). soundIn s && (if b then openOk s else closedOk s)) g
+    pub open-decides : s .going ≡ true → holdsOf s ≡ soundOf s && openOk s
+    open-decides g = the-plane ∙ ap (λ (b : Bool). soundOf s && (if b then openOk s else closedOk s)) g
 
-    pub closed-decides : s .going ≡ false → holdsOf s ≡ soundIn s && closedOk s
-    closed-decides g = the-plane ∙ ap (λ (b : Bool). soundIn s && (if b then openOk s else closedOk s)) g
+    pub closed-decides : s .going ≡ false → holdsOf s ≡ soundOf s && closedOk s
+    closed-decides g = the-plane ∙ ap (λ (b : Bool). soundOf s && (if b then openOk s else closedOk s)) g
 
 -- what the plane's checks lean on
 pub ready-of : (t : Table) → tableOk t ≡ true → (now : ℕ) (arrived awake : List Bool) (last : List ℕ) → now ≤ clock * t .scale → lastsOk arrived awake last (now / t .scale) (t .count) ≡ true

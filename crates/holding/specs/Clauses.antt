@@ -9,37 +9,7 @@ use Rattle.table.specs.Rows.{shareSumOf}
 use Rattle.ground.specs.Tests.{if_then_else_}
 use Rattle.ground.specs.Sums.{sumOf, upFrom}
 use Rattle.queue.specs.Below.{allBelow}
-use Rattle.queue.specs.declared.Queue.{Queue}
-use Rattle.plane.specs.Sound.{noMarks, allFresh, allMarked, members, queueOk}
 use Rattle.rules.specs.Bounds.{clock, mostScale, mostTicks}
-
--- CONDITIONS: "running on one of the m processors and no two on the same, waiting, or resting"
--- a running entry: a task, not past, on a processor
-abbrev pub runOk : ℕ → List Bool → ℕ → ℕ → Bool
-runOk now seats t k = ltb 0 t && (leb now k && getD seats (t - 1) false)
-
-unfoldable pub runsOk : ℕ → List Bool → List ℕ → List ℕ → ℕ → Bool
-runsOk now seats keys tasks n = allBelow n (λ j. runOk now seats (getD tasks j 0) (getD keys j 0))
-
--- a waiting entry: a task, before the end
-unfoldable pub waitsOk : ℕ → List ℕ → List ℕ → ℕ → Bool
-waitsOk end keys tasks n = allBelow n (λ j. ltb 0 (getD tasks j 0) && ltb (getD keys j 0) end)
-
--- "Slots past m are 0."
-unfoldable pub slotsOk : ℕ → List ℕ → Bool
-slotsOk m slots = allBelow 16 (λ p. ltb p m || eqb (getD slots p 0) 0)
-
--- who runs is awake, who waits is awake and does not run, who is on a processor runs; each once
-unfoldable pub membersOk : ℕ → List Bool → List ℕ → List ℕ → List ℕ → Bool
-membersOk n awake run wait slots =
-    allFresh n awake run noMarks && (allFresh n awake wait (allMarked run noMarks) && allFresh n (allMarked run noMarks) slots noMarks)
-
--- the queues, the awake flags and the slots agree, and "Any order that a queue relies on stands."
-unfoldable pub soundBy : ℕ → ℕ → ℕ → ℕ → List Bool → Queue → Queue → List ℕ → Bool
-soundBy n m now end awake r w slots =
-    leb n 128 && (leb m 16 && (queueOk r && (queueOk w
-    && ((runsOk now (allMarked slots noMarks) (r .keys) (r .tasks) (r .len) && (waitsOk end (w .keys) (w .tasks) (w .len) && slotsOk m slots))
-    && membersOk n awake (members r) (members w) slots))))
 
 -- LAST ARRIVALS: "A last arrival is never later than the present, and an awake task has one."
 abbrev pub lastOk : Bool → Bool → ℕ → ℕ → Bool

@@ -2,8 +2,9 @@
 ghost use mathlib.Core.Path.{_≡_};
 ghost use mathlib.Core.Bool.{true, _&&_};
 ghost use Prim.Native.Nat.{ℕ, _*_, _/_, _≤_, _<_};
+ghost use Rattle.plane.specs.Sound.{soundBy};
 ghost use Rattle.queue.specs.Lent.{old};
-ghost use Rattle.holding.specs.Clauses.{soundBy, lastsOk, closedBy, openBy, Ready};
+ghost use Rattle.holding.specs.Clauses.{lastsOk, closedBy, openBy, Ready};
 ghost use Rattle.rules.specs.Bounds.{clock};
 use crate::jobs::ceil;
 use crate::jobs::limits_ok;

@@ -1,6 +1,6 @@
 -- A state is sound exactly when it passes the test
 use mathlib.Core.Path.{_≡_, refl, sym, _∙_, ap}
-use mathlib.Core.Bool.{Bool, true, false, _&&_, false≢true}
+use mathlib.Core.Bool.{Bool, true, false, _&&_, false≢true, _||_}
 use mathlib.Core.Logic.{_≢_, _⊎_, inl, inr}
 use mathlib.Core.List.{List, [], _∷_}
 use mathlib.Core.Option.{Option, none, some}
@@ -9,7 +9,7 @@ use native.Mathlib.Nat.{not-suc-le-zero, le-of-suc-le-suc}
 use native.Mathlib.Decide.{ℕ-discrete, decLt}
 use native.Mathlib.Omega.{arith}
 use borrow.Author.Tests.{eq-eqb, ne-eqb}
-use lib.Dec.{ltb, leb}
+use lib.Dec.{leb, ltb, eqb}
 use lib.ListN.{length, getD, length-take, length-replicate, List·getD-eq-default}
 use lib.Seq.{getD-take}
 use Rattle.queue.specs.declared.Queue.{Queue}
@@ -28,7 +28,7 @@ use Rattle.queue.proofs.Keys.{length-held}
 use Rattle.queue.proofs.Places.{by-places, at-places}
 use Rattle.queue.proofs.Standing.{stands-says}
 use Rattle.plane.specs.Machine.{endAt}
-use Rattle.plane.specs.Sound.{noMarks, allFresh, allMarked, members, queueOk, runOk, waitOk, slotOk, entriesOk, membersOk, soundOf}
+use Rattle.plane.specs.Sound.{noMarks, allFresh, allMarked, members, queueOk, runOk, runsOk, waitsOk, slotsOk, membersOk, soundBy, soundOf}
 use Rattle.plane.specs.View.{Sound, Sized}
 use Rattle.plane.proofs.Marks.{is-says, length-marked, marked-in, marked-from, Fresh, AllFresh, all-fresh-says}
 use Rattle.ground.proofs.Ranges.{all-one}
@@ -125,19 +125,26 @@ SlotOk s p = (p < s .table .m) ⊎ (getD (s .slots) p 0 ≡ 0)
 abbrev EntriesOk : State → Type 0
 EntriesOk s = ((j : ℕ) → j < s .running .len → RunOk s j) × (((j : ℕ) → j < s .waiting .len → WaitOk s j) × ((p : ℕ) → p < 16 → SlotOk s p))
 
+-- every entry and every slot by itself
+abbrev entriesOk : State → Bool
+entriesOk s =
+    runsOk (s .now .0) (seatMarks s) (s .running .keys) (s .running .tasks) (s .running .len)
+    && (waitsOk (endAt s) (s .waiting .keys) (s .waiting .tasks) (s .waiting .len) && slotsOk (s .table .m) (s .slots))
+
 entries-says : (s : State) → Says (EntriesOk s) (entriesOk s)
-unfolding entriesOk
+unfolding runsOk waitsOk slotsOk
 entries-says s =
-    and-says _ _ (allBelow (s .running .len) (runOk s (seatMarks s))) _
-    (all-says (RunOk s) (runOk s (seatMarks s))
+    and-says _ _ (allBelow (s .running .len) _) _
+    (all-says (RunOk s) (λ j. runOk (s .now .0) (seatMarks s) (getD (s .running .tasks) j 0) (getD (s .running .keys) j 0))
     (λ j. and-says _ _ (ltb 0 (getD (s .running .tasks) j 0)) _ (ltb-says 0 (getD (s .running .tasks) j 0))
     (and-says _ _ (leb (s .now .0) (getD (s .running .keys) j 0)) _ (leb-says (s .now .0) (getD (s .running .keys) j 0)) (is-says (getD (seatMarks s) (getD (s .running .tasks) j 0 - 1) false))))
     (s .running .len))
-    (and-says _ _ (allBelow (s .waiting .len) (waitOk s)) _
-    (all-says (WaitOk s) (waitOk s)
+    (and-says _ _ (allBelow (s .waiting .len) _) _
+    (all-says (WaitOk s) (λ j. ltb 0 (getD (s .waiting .tasks) j 0) && ltb (getD (s .waiting .keys) j 0) (endAt s))
     (λ j. and-says _ _ (ltb 0 (getD (s .waiting .tasks) j 0)) _ (ltb-says 0 (getD (s .waiting .tasks) j 0)) (ltb-says (getD (s .waiting .keys) j 0) (endAt s)))
     (s .waiting .len))
-    (all-says (SlotOk s) (slotOk s) (λ p. or-says (p < s .table .m) (getD (s .slots) p 0 ≡ 0) (ltb p (s .table .m)) _ (ltb-says p (s .table .m)) (eqb-says (getD (s .slots) p 0) 0)) 16))
+    (all-says (SlotOk s) (λ p. ltb p (s .table .m) || eqb (getD (s .slots) p 0) 0)
+    (λ p. or-says (p < s .table .m) (getD (s .slots) p 0 ≡ 0) (ltb p (s .table .m)) _ (ltb-says p (s .table .m)) (eqb-says (getD (s .slots) p 0) 0)) 16))
 
 abbrev MembersOk : State → Type 0
 MembersOk s =
@@ -150,7 +157,7 @@ length-no = length-replicate {A = Bool} 128 false
 no-mark : (t : ℕ) → getD noMarks t false ≡ false
 no-mark t = all-one false 128 t
 
-members-says : (s : State) → s .table .count ≤ 128 → Says (MembersOk s) (membersOk s)
+members-says : (s : State) → s .table .count ≤ 128 → Says (MembersOk s) (membersOk (s .table .count) (s .jobs .awake) (members (s .running)) (members (s .waiting)) (s .slots))
 unfolding membersOk
 members-says s few =
     and-says _ _ (allFresh (s .table .count) (s .jobs .awake) (members (s .running)) noMarks) _
@@ -368,11 +375,11 @@ module _ (s : State) (z : Sized s) (few : s .table .count ≤ 128) where
 
 -- the test says that the state is sound
 pub sound-says : (s : State) → Sized s → Says (Sound s) (soundOf s)
-unfolding soundOf
+unfolding soundBy
 sound-says s z = go (leb (s .table .count) 128) (leb-says (s .table .count) 128)
   where
     rest : Bool
-    rest = leb (s .table .m) 16 && (queueOk (s .running) && (queueOk (s .waiting) && (entriesOk s && membersOk s)))
+    rest = leb (s .table .m) 16 && (queueOk (s .running) && (queueOk (s .waiting) && (entriesOk s && membersOk (s .table .count) (s .jobs .awake) (members (s .running)) (members (s .waiting)) (s .slots))))
 
     go : (b : Bool) → Says (s .table .count ≤ 128) b → Says (Sound s) (b && rest)
     go false n = λ S. n (S .few)

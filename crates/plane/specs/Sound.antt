@@ -5,6 +5,7 @@ use Prim.Native.Nat.{ℕ, _-_}
 use lib.Dec.{leb, ltb, eqb}
 use lib.ListN.{getD, set, take, replicate}
 use Rattle.ground.specs.Tests.{if_then_else_}
+use Rattle.rules.specs.Bounds.{mostProcessors, mostTasks, slotCount}
 use Rattle.queue.specs.declared.Queue.{Queue}
 use Rattle.queue.specs.Below.{allBelow}
 use Rattle.queue.specs.Queues.{standsOf}
@@ -38,31 +39,36 @@ members q = take (q .len) (q .tasks)
 
 -- "Any order that a queue relies on stands."
 unfoldable pub queueOk : Queue → Bool
-queueOk q = leb (q .len) 128 && standsOf q
+queueOk q = leb (q .len) mostTasks && standsOf q
 
+-- CONDITIONS: "running on one of the m processors and no two on the same, waiting, or resting"
 -- a running entry: a task, not past, on a processor
-abbrev pub runOk : State → List Bool → ℕ → Bool
-runOk s seats j =
-    ltb 0 (getD (s .running .tasks) j 0) && (leb (s .now .0) (getD (s .running .keys) j 0) && getD seats (getD (s .running .tasks) j 0 - 1) false)
+abbrev pub runOk : ℕ → List Bool → ℕ → ℕ → Bool
+runOk now seats t k = ltb 0 t && (leb now k && getD seats (t - 1) false)
+
+unfoldable pub runsOk : ℕ → List Bool → List ℕ → List ℕ → ℕ → Bool
+runsOk now seats keys tasks n = allBelow n (λ j. runOk now seats (getD tasks j 0) (getD keys j 0))
 
 -- a waiting entry: a task, before the end
-abbrev pub waitOk : State → ℕ → Bool
-waitOk s j = ltb 0 (getD (s .waiting .tasks) j 0) && ltb (getD (s .waiting .keys) j 0) (endAt s)
+unfoldable pub waitsOk : ℕ → List ℕ → List ℕ → ℕ → Bool
+waitsOk end keys tasks n = allBelow n (λ j. ltb 0 (getD tasks j 0) && ltb (getD keys j 0) end)
 
--- a slot past m is 0
-abbrev pub slotOk : State → ℕ → Bool
-slotOk s p = ltb p (s .table .m) || eqb (getD (s .slots) p 0) 0
-
--- every entry and every slot by itself
-unfoldable pub entriesOk : State → Bool
-entriesOk s = allBelow (s .running .len) (runOk s (allMarked (s .slots) noMarks)) && (allBelow (s .waiting .len) (waitOk s) && allBelow 16 (slotOk s))
+-- "Slots past m are 0."
+unfoldable pub slotsOk : ℕ → List ℕ → Bool
+slotsOk m slots = allBelow slotCount (λ p. ltb p m || eqb (getD slots p 0) 0)
 
 -- who runs is awake, who waits is awake and does not run, who is on a processor runs; each once
-unfoldable pub membersOk : State → Bool
-membersOk s =
-    let n = s .table .count in
-    let run = allMarked (members (s .running)) noMarks in
-    allFresh n (s .jobs .awake) (members (s .running)) noMarks && (allFresh n (s .jobs .awake) (members (s .waiting)) run && allFresh n run (s .slots) noMarks)
+unfoldable pub membersOk : ℕ → List Bool → List ℕ → List ℕ → List ℕ → Bool
+membersOk n awake run wait slots =
+    allFresh n awake run noMarks && (allFresh n awake wait (allMarked run noMarks) && allFresh n (allMarked run noMarks) slots noMarks)
 
-unfoldable pub soundOf : State → Bool
-soundOf s = leb (s .table .count) 128 && (leb (s .table .m) 16 && (queueOk (s .running) && (queueOk (s .waiting) && (entriesOk s && membersOk s))))
+-- the queues, the awake flags and the slots agree, and "Any order that a queue relies on stands."
+unfoldable pub soundBy : ℕ → ℕ → ℕ → ℕ → List Bool → Queue → Queue → List ℕ → Bool
+soundBy n m now end awake r w slots =
+    leb n mostTasks && (leb m mostProcessors && (queueOk r && (queueOk w
+    && ((runsOk now (allMarked slots noMarks) (r .keys) (r .tasks) (r .len) && (waitsOk end (w .keys) (w .tasks) (w .len) && slotsOk m slots))
+    && membersOk n awake (members r) (members w) slots))))
+
+-- of a state
+abbrev pub soundOf : State → Bool
+soundOf s = soundBy (s .table .count) (s .table .m) (s .now .0) (endAt s) (s .jobs .awake) (s .running) (s .waiting) (s .slots)

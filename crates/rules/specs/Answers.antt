@@ -1,6 +1,7 @@
 -- THE ANSWERS AND THEIR NUMBERS
 use Prim.Native.Nat.{ℕ}
-use mathlib.Core.Bool.{Bool, true, false}
+use mathlib.Core.Bool.{Bool}
+use lib.Dec.{eqb}
 use Rattle.rules.specs.declared.Answer.{Answer}
 use Rattle.rules.specs.declared.Answer.the-variants.{Done, Processors, TableLength, RowRange, RowExecution, Scale, Shares, TaskNumber, BetweenTicks, TooSoon, HorizonPastClock, HorizonNotLater, RoomTooShort, NotTogether, TextForm}
 
@@ -24,18 +25,4 @@ numberOf TextForm = 14
 
 -- done, or refused
 abbrev pub isDone : Answer → Bool
-isDone Done = true
-isDone Processors = false
-isDone TableLength = false
-isDone RowRange = false
-isDone RowExecution = false
-isDone Scale = false
-isDone Shares = false
-isDone TaskNumber = false
-isDone BetweenTicks = false
-isDone TooSoon = false
-isDone HorizonPastClock = false
-isDone HorizonNotLater = false
-isDone RoomTooShort = false
-isDone NotTogether = false
-isDone TextForm = false
+isDone a = eqb (numberOf a) 0

@@ -7,8 +7,7 @@ use native.Mathlib.Omega.{arith}
 use borrow.Author.Tests.{not-true, not-false}
 use lib.ListN.{length, take, length-replicate}
 use lib.Seq.{take-all}
-use Rattle.plane.specs.Sound.{noMarks, allFresh, allMarked}
-use Rattle.holding.specs.Clauses.{runsOk, membersOk}
+use Rattle.plane.specs.Sound.{noMarks, allFresh, allMarked, runsOk, membersOk}
 use Rattle.plane.proofs.Marks.{length-marked}
 use Rattle.holding.proofs.Folds.{and-first, and-next}
 use borrow.Author.Needs.{needs}

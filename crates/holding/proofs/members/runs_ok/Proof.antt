@@ -4,8 +4,8 @@ use mathlib.Core.Bool.{true}
 use Prim.Native.Nat.{_-_}
 use borrow.Author.Tests.{not-true, not-false}
 use lib.ListN.{getD}
+use Rattle.plane.specs.Sound.{runOk, runsOk}
 use Rattle.queue.specs.Below.{allBelow}
-use Rattle.holding.specs.Clauses.{runOk, runsOk}
 use Rattle.holding.proofs.Folds.{all-none, all-more, all-fails, all-whole}
 use borrow.Author.Needs.{needs}
 use Rattle.holding.proofs.members.runs_ok.Statement.{statement}

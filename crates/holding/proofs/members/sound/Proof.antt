@@ -4,8 +4,7 @@ use mathlib.Core.Bool.{true, false, _&&_}
 use borrow.Author.Tests.{not-true, not-false, le-leb}
 use lib.Dec.{leb}
 use Rattle.queue.specs.Lent.{at}
-use Rattle.plane.specs.Sound.{noMarks, allMarked, members, queueOk}
-use Rattle.holding.specs.Clauses.{runsOk, waitsOk, slotsOk, membersOk, soundBy}
+use Rattle.plane.specs.Sound.{noMarks, allMarked, members, queueOk, runsOk, waitsOk, slotsOk, membersOk, soundBy}
 use Rattle.holding.proofs.Bounds.{queue-short}
 use Rattle.holding.proofs.Folds.{and-first, and-next, parts-first, parts-second, parts-last}
 use borrow.Author.Needs.{needs}

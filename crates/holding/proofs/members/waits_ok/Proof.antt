@@ -4,9 +4,9 @@ use mathlib.Core.Bool.{true, _&&_}
 use Prim.Native.Nat.{_-_}
 use borrow.Author.Tests.{not-true, not-false}
 use lib.ListN.{getD}
+use Rattle.plane.specs.Sound.{waitsOk}
 use Rattle.queue.specs.Below.{allBelow}
 use lib.Dec.{ltb}
-use Rattle.holding.specs.Clauses.{waitsOk}
 use Rattle.holding.proofs.Folds.{all-none, all-more, all-fails, all-whole}
 use borrow.Author.Needs.{needs}
 use Rattle.holding.proofs.members.waits_ok.Statement.{statement}

@@ -4,8 +4,9 @@ use mathlib.Core.Bool.{true, false}
 use Prim.Native.Nat.{_/_, _%_}
 use borrow.Author.Tests.{not-true, not-false, eq-eqb, ne-eqb}
 use lib.Dec.{eqb}
+use Rattle.plane.specs.Sound.{soundBy}
 use Rattle.queue.specs.Lent.{at}
-use Rattle.holding.specs.Clauses.{soundBy, restsOk, closedBy}
+use Rattle.holding.specs.Clauses.{restsOk, closedBy}
 use Rattle.holding.proofs.Bounds.{sound-any}
 use Rattle.holding.proofs.Folds.{and-first, and-next, second-fails, second-holds}
 use borrow.Author.Needs.{needs}

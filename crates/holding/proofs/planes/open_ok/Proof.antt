@@ -5,8 +5,9 @@ use Prim.Native.Nat.{ℕ, _*_}
 use native.Mathlib.Omega.{arith}
 use borrow.Author.Tests.{not-true, not-false, lt-ltb, le-ltb}
 use lib.Dec.{ltb}
+use Rattle.plane.specs.Sound.{soundBy}
 use Rattle.queue.specs.Lent.{at}
-use Rattle.holding.specs.Clauses.{soundBy, amountsOk, ceilOf, limitsOk, openBy}
+use Rattle.holding.specs.Clauses.{amountsOk, ceilOf, limitsOk, openBy}
 use Rattle.holding.proofs.Bounds.{tick-small, ceil-small, end-near, end-fits, sound-short}
 use Rattle.holding.proofs.Folds.{and-first, and-next, second-fails, second-holds}
 use Rattle.holding.proofs.planes.open_ok.Statement.{statement}
