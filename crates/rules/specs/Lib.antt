@@ -13,6 +13,8 @@ pub mod Calls
 pub mod Reasons
 pub mod Run
 pub mod Demands
+pub mod Listings
+pub mod Handed
+pub mod Answered
 pub mod Figures
 pub mod Computed
-pub mod Listings
