@@ -106,5 +106,6 @@ answered = record {
   refused-step = refl;
   written = refl;
   read = refl;
+  counted = refl;
   put-in-place = refl;
 }

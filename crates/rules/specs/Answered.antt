@@ -1,19 +1,17 @@
 -- FIGURES ON ANSWERS, in document 01's numbers, and on whole results
 use mathlib.Core.Path.{_≡_}
 use mathlib.Core.Bool.{Bool, true, false}
-use mathlib.Core.Option.{Option, none}
 use mathlib.Core.List.{List, [], _∷_, _++_, map}
 use Prim.Native.Nat.{ℕ}
 use lib.ListN.{replicate}
 use Rattle.ground.specs.Bytes.{pasted}
-use Rattle.ground.specs.Sums.{upFrom}
+use Rattle.ground.specs.Sums.{upFrom, times}
 use Rattle.rules.specs.declared.Answer.{Answer}
 use Rattle.rules.specs.declared.Answer.the-variants.{Done, Processors, TableLength, RowRange, RowExecution, Scale, Shares, TaskNumber, BetweenTicks, TooSoon, HorizonPastClock, HorizonNotLater, RoomTooShort, NotTogether, TextForm}
 use Rattle.rules.specs.Answers.{numberOf, isDone}
 use Rattle.rules.specs.Table.{Row, tableBytes}
 use Rattle.rules.specs.Admission.{Verdict, Admitted, admit, admitVerdict}
-use Rattle.rules.specs.State.{asleep, running, Task, State}
-use Rattle.rules.specs.Holds.{holds}
+use Rattle.rules.specs.State.{running, State}
 use Rattle.rules.specs.Record.{Record, readRecord}
 use Rattle.rules.specs.Calls.{arriveAnswer, stepAnswer, Arrived, Stepped, arrive, step}
 use Rattle.rules.specs.Run.{Run}
@@ -31,6 +29,16 @@ verdict bytes m = let v = admitVerdict bytes m in (numberOf (v .answer), v .row)
 
 abbrev pub admits : List Row → ℕ → ℕ × ℕ
 admits rows m = verdict (tableBytes rows) m
+
+-- all that a call hands back: the number, the row, the state, the room
+abbrev pub admitGives : List Row → ℕ → ℕ × ℕ × State
+admitGives rows m = let r = admit (tableBytes rows) m in (numberOf (r .answer), r .row, r .state)
+
+abbrev pub arriveGives : State → ℕ → ℕ × State
+arriveGives s n = let r = arrive s n in (numberOf (r .answer), r .state)
+
+abbrev pub stepGives : State → ℕ → List ℕ → ℕ × State × List ℕ
+stepGives s horizon room = let r = step s horizon room in (numberOf (r .answer), r .state, r .room)
 
 -- task 1 of a table of one row arrived at 0, and the present is this tick
 abbrev pub onceAt : ℕ → Row → State
@@ -62,7 +70,7 @@ pub record Answered : Type 0 where
   pub first-faulty : admits (row 4 2 4 ∷ row 0 1 1 ∷ row 3 4 3 ∷ []) 2 ≡ (3, 2)
   -- 4: P8's
   pub p8-met : admits (row 4 5 4 ∷ []) 1 ≡ (4, 1)
-  -- 5: P5's and P6's; and L is 134,217,729
+  -- 5: P5's and P6's; then L is 134,217,729
   pub p5-met : admits (row 1048576 1 1048576 ∷ row 127 1 127 ∷ []) 1 ≡ (0, 0)
   pub p5-scale : scaleIn (row 1048576 1 1048576 ∷ row 127 1 127 ∷ []) 1 ≡ 133169152
   pub p6-met : admits (row 1048576 1 1048576 ∷ row 129 1 129 ∷ []) 1 ≡ (5, 0)
@@ -72,8 +80,8 @@ pub record Answered : Type 0 where
   -- the scale and the shares are by q: L is 12
   pub shares-by-q : sharesIn (row 4 1 9 ∷ row 9 2 6 ∷ []) 1 ≡ 3 ∷ 4 ∷ []
   -- the state: "a blank state", and "a state at instant 0, no task awake, no plane open"
-  pub refused-table : admit [] 1 ≡ record { answer = TableLength; row = 0; state = record { m = 0; scale = 0; now = 0; plane = none; tasks = [] } }
-  pub admitted-table : admit (tableBytes (row 4 2 4 ∷ [])) 1 ≡ record { answer = Done; row = 0; state = untouched 1 4 (yet-to-come (row 4 2 4) 2 ∷ []) }
+  pub refused-table : admitGives [] 1 ≡ (2, 0, untouched 0 0 [])
+  pub admitted-table : admitGives (row 4 2 4 ∷ []) 1 ≡ (0, 0, untouched 1 4 (yet-to-come (row 4 2 4) 2 ∷ []))
   -- ARRIVE. 13 before 7
   pub clash-arrives : numberOf (arriveAnswer clash 0) ≡ 13
   -- 7 before 8: "task number 0 or above the row count"
@@ -88,7 +96,7 @@ pub record Answered : Type 0 where
   pub p10-met : numberOf (arriveAnswer (onceAt 3 (row 4 2 4)) 1) ≡ 9
   pub by-period : numberOf (arriveAnswer (onceAt 2 (row 2 1 6)) 1) ≡ 0
   -- "Other refusals return the given state unchanged"
-  pub refused-arrival : arrive underway 1 ≡ record { answer = BetweenTicks; state = underway }
+  pub refused-arrival : arriveGives underway 1 ≡ (8, underway)
   -- STEP. 13 before 12, 12 before 10
   pub clash-steps : numberOf (stepAnswer clash 4294967296 47) ≡ 13
   pub room-47 : numberOf (stepAnswer underway 4294967296 47) ≡ 12
@@ -96,11 +104,14 @@ pub record Answered : Type 0 where
   pub past-clock : numberOf (stepAnswer underway 4294967296 48) ≡ 10
   pub to-last-tick : numberOf (stepAnswer underway 4294967295 48) ≡ 0
   -- 11: 1 · 4 is before 5; "and write nothing"
-  pub refused-step : step underway 1 (replicate 50 9) ≡ record { answer = HorizonNotLater; state = underway; room = replicate 50 9 }
+  pub refused-step : stepGives underway 1 (replicate 50 9) ≡ (11, underway, replicate 50 9)
   -- A RECORD'S BYTES: 0 to 300, task 1, and "Bytes of the room after the 48th are unchanged."
   pub written : step (onceAt 0 (row 20 15 20)) 20 (replicate 50 9) .room ≡ replicate 8 0 ++ (44 ∷ 1 ∷ replicate 6 0) ++ (1 ∷ replicate 31 0) ++ (9 ∷ 9 ∷ [])
   -- and read back: of the bytes 0 to 47, from and to are eight bytes each, a slot is two
   pub read : readRecord (upFrom 0 48)
       ≡ line 506097522914230528 1084818905618843912
       (4368 ∷ 4882 ∷ 5396 ∷ 5910 ∷ 6424 ∷ 6938 ∷ 7452 ∷ 7966 ∷ 8480 ∷ 8994 ∷ 9508 ∷ 10022 ∷ 10536 ∷ 11050 ∷ 11564 ∷ 12078 ∷ [])
+  -- how often a task stands in the slots
+  pub counted : times 2 (2 ∷ 1 ∷ 2 ∷ 3 ∷ 0 ∷ []) ≡ 2
+  -- bytes put at a place
   pub put-in-place : pasted (1 ∷ 2 ∷ 3 ∷ 4 ∷ 5 ∷ 6 ∷ []) 2 (8 ∷ 9 ∷ []) ≡ 1 ∷ 2 ∷ 8 ∷ 9 ∷ 5 ∷ 6 ∷ []
