@@ -1,3 +1,4 @@
+pub mod AddUp
 pub mod Figures
 pub mod Euclid
 pub mod Scale

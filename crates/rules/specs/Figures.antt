@@ -1,82 +1,42 @@
--- FIGURES TO CHECK AGAINST: P1 to P10 of document 01
+-- FIGURES TO CHECK AGAINST: P1 to P10 of document 01, and what they leave open. One list
 use mathlib.Core.Path.{_≡_}
 use mathlib.Core.Bool.{Bool, true}
-use mathlib.Core.Option.{Option, some}
-use mathlib.Core.List.{List, [], _∷_, _++_, map}
+use mathlib.Core.List.{List, [], _∷_}
 use Prim.Native.Nat.{ℕ, _+_, _*_, _-_, _≤_, _<_, min}
-use lib.ListN.{length, take, replicate}
-use Rattle.rules.specs.declared.Answer.{Answer}
-use Rattle.rules.specs.declared.Answer.the-variants.{Done, RowExecution, Scale, Shares, TooSoon}
-use Rattle.rules.specs.Table.{Row, shorter, tableBytes}
-use Rattle.rules.specs.Admission.{Verdict, plain, Admitted, admit, admitVerdict}
+use lib.ListN.{length}
+use Rattle.rules.specs.Answers.{numberOf}
 use Rattle.rules.specs.State.{Task, State, at, period}
+use Rattle.rules.specs.Together.{InRange}
+use Rattle.rules.specs.Reasons.{ProcessorsOk}
 use Rattle.rules.specs.Holds.{holds}
-use Rattle.rules.specs.Record.{Record}
 use Rattle.rules.specs.Calls.{arriveAnswer}
-use Rattle.rules.specs.Run.{Call, arriveCall, stepCall, Run, runOf}
+use Rattle.rules.specs.Handed.{Handed}
+use Rattle.rules.specs.Answered.{admits, Answered}
+use Rattle.rules.specs.Histories.{Histories}
+use Rattle.rules.specs.Listings.{scaleIn, Listings}
+unfoldable pub use Rattle.rules.specs.Listings.{row, towards, line, listing, tableP1}
 
-abbrev pub row : ℕ → ℕ → ℕ → Row
-row p e d = record { period = p; exec = e; deadline = d }
+-- in a state that holds together, the task arrived this many ticks ago, and the present is a whole tick
+pub record ArrivedAgo (s : State) (task ticks : ℕ) : Type 0 where
+  pub together : holds s ≡ true
+  pub known : (1 ≤ task) × (task ≤ length s.tasks)
+  pub came : at (task - 1) s.tasks .arrived ≡ true
+  pub ago : s.now ≡ (at (task - 1) s.tasks .last + ticks) * s.scale
 
--- a step with room for a record, towards a tick
-abbrev pub towards : ℕ → Call
-towards tick = stepCall tick (replicate 48 0)
-
--- a line of a listing: from, to, the m slots
-abbrev pub line : ℕ → ℕ → List ℕ → Record
-line from to slots = record { from = from; to = to; slots = slots }
-
--- the listing of a run: the table, m, the calls
-unfoldable pub listing : List Row → ℕ → List Call → List Record
-listing rows m cs = map (λ (r : Record). line (r .from) (r .to) (take m (r .slots))) (runOf (tableBytes rows) m cs .records)
-
--- the scale and the shares of an admitted table
-unfoldable pub scaleIn : List Row → ℕ → ℕ
-scaleIn rows m = admit (tableBytes rows) m .state .scale
-
-unfoldable pub sharesIn : List Row → ℕ → List ℕ
-sharesIn rows m = map (λ (t : Task). t.share) (admit (tableBytes rows) m .state .tasks)
-
-abbrev pub tableP1 : List Row
-tableP1 = row 4 3 4 ∷ row 6 4 6 ∷ row 3 1 3 ∷ row 4 1 4 ∷ []
-
--- the figures with numbers: each holds by computation. The last step of each list of calls finds the present at the
--- horizon, is refused, and leaves no record
-pub record Listings : Type 0 where
-  pub p1-scale : scaleIn tableP1 2 ≡ 12
-  pub p1-shares : sharesIn tableP1 2 ≡ 9 ∷ 8 ∷ 4 ∷ 3 ∷ []
-  pub p1 : listing tableP1 2 (arriveCall 1 ∷ arriveCall 2 ∷ arriveCall 3 ∷ arriveCall 4 ∷ towards 3 ∷ towards 3 ∷ towards 3 ∷ towards 3 ∷ [])
-      ≡ line 0 24 (1 ∷ 2 ∷ []) ∷ line 24 27 (1 ∷ 3 ∷ []) ∷ line 27 36 (4 ∷ 3 ∷ []) ∷ []
-  -- "all arrivals called at that tick belong to it": in whatever order
-  pub p1-turned : listing tableP1 2 (arriveCall 4 ∷ arriveCall 3 ∷ arriveCall 2 ∷ arriveCall 1 ∷ towards 3 ∷ towards 3 ∷ towards 3 ∷ towards 3 ∷ [])
-      ≡ line 0 24 (1 ∷ 2 ∷ []) ∷ line 24 27 (1 ∷ 3 ∷ []) ∷ line 27 36 (4 ∷ 3 ∷ []) ∷ []
-  pub p2 : admitVerdict (tableBytes (tableP1 ++ (row 12 1 12 ∷ []))) 2 ≡ plain Shares
-  pub p3-scale : scaleIn (row 4 2 4 ∷ row 8 4 8 ∷ []) 1 ≡ 8
-  pub p3 : listing (row 4 2 4 ∷ row 8 4 8 ∷ []) 1 (arriveCall 1 ∷ towards 1 ∷ towards 1 ∷ arriveCall 2 ∷ towards 4 ∷ towards 4 ∷ towards 4 ∷ towards 4 ∷ [])
-      ≡ line 0 8 (1 ∷ []) ∷ line 8 16 (1 ∷ []) ∷ line 16 28 (2 ∷ []) ∷ line 28 32 (0 ∷ []) ∷ []
-  pub p3-end : runOf (tableBytes (row 4 2 4 ∷ row 8 4 8 ∷ [])) 1 (arriveCall 1 ∷ towards 1 ∷ []) .state .plane ≡ some 4
-  pub p4-end : runOf (tableBytes (row 4 2 4 ∷ row 4 2 4 ∷ row 3 3 3 ∷ [])) 2 (arriveCall 1 ∷ arriveCall 2 ∷ towards 1 ∷ []) .state .plane ≡ some 3
-  pub p4 : listing (row 4 2 4 ∷ row 4 2 4 ∷ row 3 3 3 ∷ []) 2 (arriveCall 1 ∷ arriveCall 2 ∷ towards 1 ∷ towards 1 ∷ arriveCall 3 ∷ towards 3 ∷ towards 3 ∷ towards 3 ∷ towards 3 ∷ [])
-      ≡ line 0 12 (1 ∷ 2 ∷ []) ∷ line 12 18 (3 ∷ 2 ∷ []) ∷ line 18 24 (3 ∷ 1 ∷ []) ∷ line 24 36 (3 ∷ 0 ∷ []) ∷ []
-  pub p5 : admitVerdict (tableBytes (row 1048576 1 1048576 ∷ row 127 1 127 ∷ [])) 1 ≡ plain Done
-  pub p5-scale : scaleIn (row 1048576 1 1048576 ∷ row 127 1 127 ∷ []) 1 ≡ 133169152
-  pub p6 : admitVerdict (tableBytes (row 1048576 1 1048576 ∷ row 129 1 129 ∷ [])) 1 ≡ plain Scale
-  -- "with rows 10 5 10 and 2 1 2, task 2's deadline falls inside": the plane ends at 2, task 2 asleep
-  pub asleep-counts : runOf (tableBytes (row 10 5 10 ∷ row 2 1 2 ∷ [])) 1 (arriveCall 1 ∷ towards 1 ∷ []) .state .plane ≡ some 2
-  -- and such states are met: one row, p = 4, arrivals 4 and 3 ticks apart
-  pub p9-met : arriveAnswer (runOf (tableBytes (row 4 2 4 ∷ [])) 1 (arriveCall 1 ∷ towards 4 ∷ towards 4 ∷ []) .state) 1 ≡ Done
-  pub p10-met : arriveAnswer (runOf (tableBytes (row 4 2 4 ∷ [])) 1 (arriveCall 1 ∷ towards 3 ∷ towards 3 ∷ []) .state) 1 ≡ TooSoon
-  pub p8-met : admitVerdict (tableBytes (row 4 5 4 ∷ [])) 1 ≡ record { answer = RowExecution; row = 1 }
-
--- P1 to P10
 pub record Figures : Type 0 where
+  -- those with numbers hold by computation: P1, P3 and P4 stand in the listings, P2 in the answers
   pub listings : Listings
-  -- for every p and D of the range
-  pub p7 : (p d : ℕ) → 1 ≤ p → p ≤ 1048576 → 1 ≤ d → d ≤ 1048576 → admitVerdict (tableBytes (row p (min p d) d ∷ [])) 1 ≡ plain Done
-  pub p8 : (p d : ℕ) → 1 ≤ p → p ≤ 1048576 → 1 ≤ d → d ≤ 1048576 → min p d < 1048576
-      → admitVerdict (tableBytes (row p (min p d + 1) d ∷ [])) 1 ≡ record { answer = RowExecution; row = 1 }
-  -- in every state that holds together, at a whole tick, for a task whose last arrival lies p ticks back, or p − 1
-  pub p9 : (s : State) (task tick : ℕ) → holds s ≡ true → 1 ≤ task → task ≤ length s.tasks → s.now ≡ tick * s.scale → at (task - 1) s.tasks .arrived ≡ true
-      → at (task - 1) s.tasks .last + period (at (task - 1) s.tasks) ≡ tick → arriveAnswer s task ≡ Done
-  pub p10 : (s : State) (task tick : ℕ) → holds s ≡ true → 1 ≤ task → task ≤ length s.tasks → s.now ≡ tick * s.scale → at (task - 1) s.tasks .arrived ≡ true
-      → at (task - 1) s.tasks .last + (period (at (task - 1) s.tasks) - 1) ≡ tick → arriveAnswer s task ≡ TooSoon
+  pub handed : Handed
+  pub answered : Answered
+  pub histories : Histories
+  -- P5 and P6, for every m, and every p and D whose shorter is the q
+  pub p5 : (m p d p′ d′ : ℕ) → ProcessorsOk m → InRange p → InRange d → InRange p′ → InRange d′ → min p d ≡ 1048576 → min p′ d′ ≡ 127
+      → (admits (row p 1 d ∷ row p′ 1 d′ ∷ []) m ≡ (0, 0)) × (scaleIn (row p 1 d ∷ row p′ 1 d′ ∷ []) m ≡ 133169152)
+  pub p6 : (m p d p′ d′ : ℕ) → ProcessorsOk m → InRange p → InRange d → InRange p′ → InRange d′ → min p d ≡ 1048576 → min p′ d′ ≡ 129
+      → admits (row p 1 d ∷ row p′ 1 d′ ∷ []) m ≡ (5, 0)
+  -- P7 and P8, for every p and D; P8 for every m
+  pub p7 : (p d : ℕ) → InRange p → InRange d → admits (row p (min p d) d ∷ []) 1 ≡ (0, 0)
+  pub p8 : (m p d : ℕ) → ProcessorsOk m → InRange p → InRange d → min p d < 1048576 → admits (row p (min p d + 1) d ∷ []) m ≡ (4, 1)
+  -- P9 and P10, in every state
+  pub p9 : (s : State) (task : ℕ) → ArrivedAgo s task (period (at (task - 1) s.tasks)) → numberOf (arriveAnswer s task) ≡ 0
+  pub p10 : (s : State) (task : ℕ) → ArrivedAgo s task (period (at (task - 1) s.tasks) - 1) → numberOf (arriveAnswer s task) ≡ 9

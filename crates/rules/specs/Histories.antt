@@ -8,7 +8,7 @@ use Rattle.rules.specs.Table.{Row, tableBytes}
 use Rattle.rules.specs.Record.{Record}
 use Rattle.rules.specs.Run.{Call, arriveCall, Arrival, Run, runOf}
 use Rattle.rules.specs.History.{ran, cameBy, planeEnd}
-use Rattle.rules.specs.Figures.{row, line, towards}
+use Rattle.rules.specs.Listings.{row, line, towards}
 
 abbrev pub came : ℕ → ℕ → Arrival
 came task tick = record { task = task; tick = tick }

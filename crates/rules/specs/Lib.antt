@@ -16,8 +16,9 @@ pub mod Exactly
 pub mod Run
 pub mod History
 pub mod Demands
+pub mod Listings
+pub mod Handed
+pub mod Answered
+pub mod Histories
 pub mod Figures
 pub mod Computed
-pub mod Listings
-pub mod Histories
-pub mod HistoriesShown
