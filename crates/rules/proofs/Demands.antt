@@ -1,31 +1,35 @@
 -- Demand 3 holds of the rules: whatever table, whatever calls
 use mathlib.Core.Path.{_≡_, refl, sym, _∙_, ap, subst}
-use mathlib.Core.Logic.{inl}
+use mathlib.Core.Bool.{Bool, true, false}
+use mathlib.Core.Option.{Option, none, some}
+use mathlib.Core.Logic.{inl, _↔_}
 use mathlib.Core.List.{List, [], _∷_, _++_, map}
-use Prim.Native.Nat.{ℕ, suc, _*_, _-_, _≤_, _<_}
+use Prim.Native.Nat.{ℕ, suc, _+_, _*_, _-_, _≤_, _<_}
 use native.Mathlib.Nat.{mul-le-mul-right}
 use native.Mathlib.Omega.{arith}
-use lib.ListN.{length, length-map}
+use native.Mathlib.Decide.{decLt}
+use lib.ListN.{length, getD, length-map}
+use Rattle.ground.specs.Tests.{if_then_else_}
 use Rattle.rules.specs.declared.Answer.the-variants.{Done}
 use Rattle.rules.specs.Admission.{admit}
-use Rattle.rules.specs.Calls.{arrive}
-use Rattle.rules.specs.Demands.{Job, Course, Demand3, OthersStay}
+use Rattle.rules.specs.Calls.{arrive, step}
+use Rattle.rules.specs.Demands.{Job, Course, Next, Demand3, OthersStay}
 use Rattle.rules.specs.History.{cameBy, planeEnd}
 use Rattle.rules.specs.Figures.{row}
 use Rattle.rules.specs.Reasons.{ArriveReason}
 use Rattle.rules.specs.Run.{Arrival, Call, arriveCall, Run, perform, starting, perform-all, runOf}
 use Rattle.rules.specs.Scale.{scaleOf}
-use Rattle.rules.specs.State.{Task, at, short, isAwake, tickOf, fresh, admitted}
+use Rattle.rules.specs.State.{Task, State, noRow, at, short, isAwake, tickOf, fresh, admitted}
 use Rattle.rules.specs.Table.{Row, rowsOf}
 use Rattle.rules.specs.Together.{Together}
 use Rattle.rules.proofs.Ends.{end-rises}
 use Rattle.rules.proofs.Events.{Core}
-use Rattle.rules.proofs.Calls.{arriving-takes}
+use Rattle.rules.proofs.Calls.{tick-of, arriving-takes}
 use Rattle.rules.proofs.Keeping.{not-both}
-use Rattle.rules.proofs.Refusing.{arrive-answers}
+use Rattle.rules.proofs.Refusing.{arrive-answers, arrive-exact, step-exact}
 use Rattle.rules.proofs.Standing.{facts}
 use Rattle.rules.proofs.Starting.{at-fresh, rows-back, all-asleep, admitted-together, admit-passes}
-use Rattle.rules.proofs.Jobs.{In, Good, run-good, all-split, all-in, done-comes}
+use Rattle.rules.proofs.Jobs.{F, scale-is, size-is, row-is, lastOf, In, Good, run-good, all-split, all-in, done-comes}
 
 pub start-good : (bytes : List ℕ) (m : ℕ) → admit bytes m .answer ≡ Done → Good (rowsOf bytes) (starting (admit bytes m .state))
 unfolding admit planeEnd cameBy
@@ -65,6 +69,47 @@ job-of rows r G x i = G .jobs x i .2
 pub course-of : (rows : List Row) (r : Run) → Good rows r → Course rows r
 course-of rows r G = record { once = G .once; follows = G .follows; seams = G .seams }
 
+-- the next call
+pub next-of : (rows : List Row) (r : Run) → Good rows r → Next rows r
+next-of rows r G = record { takes = takes; moves = moves }
+  where
+    s : State
+    s = r .state
+
+    sc : r .state .scale ≡ scaleOf rows
+    sc = scale-is rows r G
+
+    takes : (task tick : ℕ) → 1 ≤ task → task ≤ length rows → r .state .now ≡ tick * scaleOf rows
+        → (arrive (r .state) task .answer ≡ Done) ↔ ((a : ℕ) → cameBy task tick (r .arrivals) ≡ some a → a + getD rows (task - 1) noRow .period ≤ tick)
+    takes task tick lo hi e = unfold arrive in (
+      (λ d. let R = subst (ArriveReason (r .state) task) d (arrive-answers (r .state) task) in λ a c. seen (u .arrived) (u .last) a (λ x lt. R .3 (x, rw tk (omega (arith, lt, per)))) (sym latest ∙ c)),
+      (λ f. arrive-exact (r .state) task Done (G .together, (lo, omega (arith, size-is rows r G)), e ∙ ap (λ x. tick * x) (sym sc) ∙ ap (λ x. x * r .state .scale) (sym tk),
+          λ S. let z = f (u .last) (latest ∙ ap (λ b. if b then some (u .last) else none) (S .0)) in let w = S .1 in omega (arith, z, w, tk, per))),
+    )
+      where
+        u : Task
+        u = at (task - 1) (r .state .tasks)
+
+        tk : tickOf (r .state) ≡ tick
+        tk = tick-of (r .state .now) (r .state .scale) tick (F rows r G .scale-pos) (e ∙ ap (λ x. tick * x) (sym sc))
+
+        latest : cameBy task tick (r .arrivals) ≡ lastOf (at (task - 1) (r .state .tasks))
+        latest = let i : suc (task - 1) ≡ task = omega arith in rw i at (G .latest (task - 1) (omega arith) tick (omega arith))
+
+        per : at (task - 1) (r .state .tasks) .row .period ≡ getD rows (task - 1) noRow .period
+        per = ap (λ (x : Row). x .period) (row-is rows r G (task - 1))
+
+        seen : (b : Bool) (l a : ℕ) → (b ≡ true → tick < l + getD rows (task - 1) noRow .period → ⊥) → _≡_ {A = Option ℕ} (if b then some l else none) (some a) → a + getD rows (task - 1) noRow .period ≤ tick
+        seen true l a n z = let y : l ≡ a = cc in let k = n refl in go (decLt tick (l + getD rows (task - 1) noRow .period)) k y
+          where
+            go : Dec (tick < l + getD rows (task - 1) noRow .period) → (tick < l + getD rows (task - 1) noRow .period → ⊥) → l ≡ a → a + getD rows (task - 1) noRow .period ≤ tick
+            go (yes q) k y = absurd (k q)
+            go (no q) k y = omega arith
+        seen false l a n z = let y : _≡_ {A = ℕ} 0 1 = cc in absurd (omega arith)
+
+    moves : (horizon : ℕ) (room : List ℕ) → 48 ≤ length room → horizon ≤ 4294967295 → r .state .now < horizon * scaleOf rows → step (r .state) horizon room .answer ≡ Done
+    moves h room a b c = unfold step in (step-exact (r .state) h (length room) Done (G .together, a, b, omega (arith, c, ap (λ x. h * x) sc)))
+
 -- DEMAND 3
 pub demand-3 : Demand3
 demand-3 = record {
@@ -73,6 +118,7 @@ demand-3 = record {
       let x : Arrival = record { task = task; tick = tickOf (r .state) } in
       job-of (rowsOf bytes) (runOf bytes m (before ++ arriveCall task ∷ later)) (run-of-good bytes m d (before ++ arriveCall task ∷ later)) x (found bytes m before task a later);
   courses = λ bytes m d calls. course-of (rowsOf bytes) (runOf bytes m calls) (run-of-good bytes m d calls);
+  nexts = λ bytes m d calls. next-of (rowsOf bytes) (runOf bytes m calls) (run-of-good bytes m d calls);
 }
   where
     found : (bytes : List ℕ) (m : ℕ) (before : List Call) (task : ℕ) → arrive (runOf bytes m before .state) task .answer ≡ Done → (later : List Call)

@@ -100,19 +100,19 @@ limit-case q t a false false known due early = refl
 
 -- what the table of a good run gives
 module _ (rows : List Row) (r : Run) (G : Good rows r) where
-  F : Facts (r .state .m) (r .state .scale) (r .state .tasks)
+  pub F : Facts (r .state .m) (r .state .scale) (r .state .tasks)
   F = facts (r .state .tasks) (G .together .table)
 
-  scale-is : r .state .scale ≡ scaleOf rows
+  pub scale-is : r .state .scale ≡ scaleOf rows
   scale-is = G .together .table .scale-is ∙ ap scaleOf (G .rows-are)
 
   pos : 0 < scaleOf rows
   pos = subst (λ l. 0 < l) scale-is (F .scale-pos)
 
-  size-is : length rows ≡ length (r .state .tasks)
+  pub size-is : length rows ≡ length (r .state .tasks)
   size-is = ap length (sym (G .rows-are)) ∙ length-map (r .state .tasks) (λ (t : Task). t.row)
 
-  row-is : (j : ℕ) → at j (r .state .tasks) .row ≡ getD rows j noRow
+  pub row-is : (j : ℕ) → at j (r .state .tasks) .row ≡ getD rows j noRow
   row-is j = sym (row-at (r .state .tasks) j) ∙ ap (λ (x : List Row). getD x j noRow) (G .rows-are)
 
   some-row : 0 < length rows

@@ -15,8 +15,8 @@ use Rattle.rules.specs.Record.{onProc, slotsOf, slotBytes, recordBytes, 
 use Rattle.rules.specs.Calls.{lowestIdle, wake, arriveIdle, arriveIn, arriving, arriveAnswer, arrive, after, moveTo, moveIn, moving, stepAnswer, step}
 use Rattle.rules.specs.Run.{perform, perform-all, runOf}
 use Rattle.rules.specs.History.{ran, cameBy, limitsBy, earliest, planeEnd}
-use Rattle.rules.specs.Figures.{listing, scaleIn, sharesIn}
+use Rattle.rules.specs.Figures.{listing, scaleIn, sharesIn, againAt}
 
 unfoldable pub computed : ℕ
-unfolding every sumOf upFrom le number rowsOf gcdIn gcd lcm scaleFrom scaleOf shareOf fits faultFrom sizeVerdict rowsVerdict admitVerdict admit become tableHolds conditionsHold lastsHold closedHolds openHolds holds better least endOf ordered falling enter openTasks openAt openCase opened closed advance orKey nextAt giveTo give takeFrom seize bCase bEvent bEvents cEventsIn cEvents events onProc slotsOf slotBytes recordBytes slotsFrom readRecord lowestIdle wake arriveIdle arriveIn arriving arriveAnswer arrive after moveTo moveIn moving stepAnswer step perform perform-all runOf ran cameBy limitsBy earliest planeEnd tableBytes listing scaleIn sharesIn
+unfolding every sumOf upFrom le number rowsOf gcdIn gcd lcm scaleFrom scaleOf shareOf fits faultFrom sizeVerdict rowsVerdict admitVerdict admit become tableHolds conditionsHold lastsHold closedHolds openHolds holds better least endOf ordered falling enter openTasks openAt openCase opened closed advance orKey nextAt giveTo give takeFrom seize bCase bEvent bEvents cEventsIn cEvents events onProc slotsOf slotBytes recordBytes slotsFrom readRecord lowestIdle wake arriveIdle arriveIn arriving arriveAnswer arrive after moveTo moveIn moving stepAnswer step perform perform-all runOf ran cameBy limitsBy earliest planeEnd tableBytes listing scaleIn sharesIn againAt
 computed = 0

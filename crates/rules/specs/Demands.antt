@@ -1,9 +1,10 @@
 -- DEMAND 3, said of a table and of all that was called and handed out
 use mathlib.Core.Path.{_≡_}
 use mathlib.Core.List.{List, _∷_, _++_}
-use mathlib.Core.Logic.{_≢_}
+use mathlib.Core.Logic.{_≢_, _↔_}
+use mathlib.Core.Option.{some}
 use Prim.Native.Nat.{ℕ, suc, _+_, _*_, _-_, _≤_, _<_}
-use lib.ListN.{getD}
+use lib.ListN.{length, getD}
 use Rattle.rules.specs.declared.Answer.{Answer}
 use Rattle.rules.specs.declared.Answer.the-variants.{Done}
 use Rattle.rules.specs.Table.{Row, rowsOf, shorter}
@@ -12,9 +13,9 @@ use Rattle.rules.specs.Admission.{Admitted, admit}
 use Rattle.rules.specs.State.{Task, State, noRow, at, isAwake, amount, tickOf}
 use Rattle.rules.specs.Together.{Awake}
 use Rattle.rules.specs.Record.{Record}
-use Rattle.rules.specs.Calls.{Arrived, arrive}
+use Rattle.rules.specs.Calls.{Arrived, arrive, Stepped, step}
 use Rattle.rules.specs.Run.{Call, arriveCall, Run, runOf}
-use Rattle.rules.specs.History.{ran, Once, Follows, EndsAt, planeEnd}
+use Rattle.rules.specs.History.{ran, Once, Follows, EndsAt, cameBy, planeEnd}
 
 -- the k-th plane end is at this tick, and the clock has reached it
 abbrev pub Reached : List Row → Run → ℕ → ℕ → Type 0
@@ -40,6 +41,14 @@ module _ (rows : List Row) (h : Run) (n a : ℕ) where
     -- "So when the clock reaches q after its arrival it has run exactly e ticks"; a record ends there
     pub whole : (a + q) * L ≤ h.state.now → (ran n (a * L) ((a + q) * L) h.records ≡ e * L) × EndsAt ((a + q) * L) h.records
 
+-- what the next call is answered, said of the table and of the arrivals taken: no flag of the state
+pub record Next (rows : List Row) (h : Run) : Type 0 where
+  -- 9: "the task arrived before, less than p ticks ago"; no other reason refuses a task of the table at a whole tick
+  pub takes : (task tick : ℕ) → 1 ≤ task → task ≤ length rows → h.state.now ≡ tick * scaleOf rows
+      → (arrive h.state task .answer ≡ Done) ↔ ((a : ℕ) → cameBy task tick h.arrivals ≡ some a → a + getD rows (task - 1) noRow .period ≤ tick)
+  -- a step with room for a record and a horizon ahead, within the clock, is taken
+  pub moves : (horizon : ℕ) (room : List ℕ) → 48 ≤ length room → horizon ≤ 4294967295 → h.state.now < horizon * scaleOf rows → step h.state horizon room .answer ≡ Done
+
 -- what is true of any calls
 pub record Course (rows : List Row) (h : Run) : Type 0 where
   -- "It never runs on two processors at one instant"
@@ -53,6 +62,7 @@ pub record Demand3 : Type 0 where
   pub jobs : (bytes : List ℕ) (m : ℕ) → admit bytes m .answer ≡ Done → (before : List Call) (task : ℕ) → arrive (runOf bytes m before .state) task .answer ≡ Done → (later : List Call)
       → Job (rowsOf bytes) (runOf bytes m (before ++ arriveCall task ∷ later)) task (tickOf (runOf bytes m before .state))
   pub courses : (bytes : List ℕ) (m : ℕ) → admit bytes m .answer ≡ Done → (calls : List Call) → Course (rowsOf bytes) (runOf bytes m calls)
+  pub nexts : (bytes : List ℕ) (m : ℕ) → admit bytes m .answer ≡ Done → (calls : List Call) → Next (rowsOf bytes) (runOf bytes m calls)
 
 -- NOTHING ELSE MOVES
 -- of a task: its row, share and last arrival, whether it is awake, and what it has left

@@ -7,11 +7,11 @@ use Prim.Native.Nat.{ℕ, _+_, _*_, _-_, _≤_, _<_, min}
 use lib.ListN.{length, take, replicate}
 use Rattle.rules.specs.declared.Answer.{Answer}
 use Rattle.rules.specs.declared.Answer.the-variants.{Done, RowExecution, Scale, Shares, TooSoon}
-use Rattle.rules.specs.Table.{Row, shorter, tableBytes}
+use Rattle.rules.specs.Table.{Row, shorter, rowsOf, tableBytes}
 use Rattle.rules.specs.Admission.{Verdict, plain, Admitted, admit, admitVerdict}
 use Rattle.rules.specs.State.{Task, State, at, period}
 use Rattle.rules.specs.Holds.{holds}
-use Rattle.rules.specs.Record.{Record}
+use Rattle.rules.specs.Record.{Record, recordBytes, readRecord}
 use Rattle.rules.specs.Calls.{arriveAnswer}
 use Rattle.rules.specs.Run.{Call, arriveCall, stepCall, Run, runOf}
 
@@ -40,6 +40,14 @@ sharesIn rows m = map (λ (t : Task). t.share) (admit (tableBytes rows) m .state
 abbrev pub tableP1 : List Row
 tableP1 = row 4 3 4 ∷ row 6 4 6 ∷ row 3 1 3 ∷ row 4 1 4 ∷ []
 
+-- the task set of document 001, Table 1
+abbrev pub tableOne : List Row
+tableOne = row 7 3 7 ∷ row 16 1 16 ∷ row 19 5 19 ∷ row 5 4 5 ∷ row 26 2 26 ∷ row 26 15 26 ∷ row 29 20 29 ∷ row 17 14 17 ∷ []
+
+-- a row with D below p that came at 0, and what its arrival is answered at this tick
+unfoldable pub againAt : ℕ → Answer
+againAt tick = arriveAnswer (runOf (tableBytes (row 10 2 3 ∷ [])) 1 (arriveCall 1 ∷ towards tick ∷ towards tick ∷ towards tick ∷ towards tick ∷ towards tick ∷ towards tick ∷ towards tick ∷ towards tick ∷ []) .state) 1
+
 -- the figures with numbers: each holds by computation. The last step of each list of calls finds the present at the
 -- horizon, is refused, and leaves no record
 pub record Listings : Type 0 where
@@ -66,6 +74,18 @@ pub record Listings : Type 0 where
   -- and such states are met: one row, p = 4, arrivals 4 and 3 ticks apart
   pub p9-met : arriveAnswer (runOf (tableBytes (row 4 2 4 ∷ [])) 1 (arriveCall 1 ∷ towards 4 ∷ towards 4 ∷ []) .state) 1 ≡ Done
   pub p10-met : arriveAnswer (runOf (tableBytes (row 4 2 4 ∷ [])) 1 (arriveCall 1 ∷ towards 3 ∷ towards 3 ∷ []) .state) 1 ≡ TooSoon
+  -- Table 1 of document 001: C events that displace, B events with more than one waiting, falling shares that are not the row order
+  pub table-one : listing tableOne 4 (arriveCall 1 ∷ arriveCall 2 ∷ arriveCall 3 ∷ arriveCall 4 ∷ arriveCall 5 ∷ arriveCall 6 ∷ arriveCall 7 ∷ arriveCall 8
+      ∷ towards 5 ∷ towards 5 ∷ towards 5 ∷ towards 5 ∷ towards 5 ∷ towards 5 ∷ towards 5 ∷ towards 5 ∷ towards 5 ∷ towards 5 ∷ [])
+      ≡ line 0 194833600 (8 ∷ 4 ∷ 7 ∷ 6 ∷ []) ∷ line 194833600 235144000 (8 ∷ 4 ∷ 7 ∷ 1 ∷ []) ∷ line 235144000 272767040 (8 ∷ 4 ∷ 3 ∷ 1 ∷ [])
+      ∷ line 272767040 280789600 (8 ∷ 5 ∷ 3 ∷ 1 ∷ []) ∷ line 280789600 298994640 (2 ∷ 5 ∷ 3 ∷ 1 ∷ []) ∷ line 298994640 300868040 (2 ∷ 6 ∷ 3 ∷ 1 ∷ [])
+      ∷ line 300868040 302099525 (2 ∷ 0 ∷ 3 ∷ 1 ∷ []) ∷ line 302099525 324870000 (0 ∷ 0 ∷ 3 ∷ 1 ∷ []) ∷ line 324870000 340958800 (0 ∷ 0 ∷ 0 ∷ 1 ∷ []) ∷ []
+  -- 9 counts p, not q: a row 10 2 3
+  pub again : map againAt (2 ∷ 3 ∷ 9 ∷ 10 ∷ []) ≡ TooSoon ∷ TooSoon ∷ TooSoon ∷ Done ∷ []
+  -- bytes as they stand: p, e, D, least byte first; from, to, the slots
+  pub row-bytes : rowsOf (1 ∷ 2 ∷ 0 ∷ 0 ∷ 5 ∷ 0 ∷ 0 ∷ 0 ∷ 3 ∷ 1 ∷ 0 ∷ 0 ∷ []) ≡ row 513 5 259 ∷ []
+  pub record-bytes : recordBytes (line 5 515 (258 ∷ 7 ∷ [])) ≡ 5 ∷ 0 ∷ 0 ∷ 0 ∷ 0 ∷ 0 ∷ 0 ∷ 0 ∷ 3 ∷ 2 ∷ 0 ∷ 0 ∷ 0 ∷ 0 ∷ 0 ∷ 0 ∷ 2 ∷ 1 ∷ 7 ∷ 0 ∷ []
+  pub record-read : readRecord (5 ∷ 0 ∷ 0 ∷ 0 ∷ 0 ∷ 0 ∷ 0 ∷ 0 ∷ 3 ∷ 2 ∷ 0 ∷ 0 ∷ 0 ∷ 0 ∷ 0 ∷ 0 ∷ 2 ∷ 1 ∷ 7 ∷ replicate 29 0) ≡ line 5 515 (258 ∷ 7 ∷ replicate 14 0)
   pub p8-met : admitVerdict (tableBytes (row 4 5 4 ∷ [])) 1 ≡ record { answer = RowExecution; row = 1 }
 
 -- P1 to P10

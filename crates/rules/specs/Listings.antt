@@ -22,5 +22,10 @@ listings = record {
   asleep-counts = refl;
   p9-met = refl;
   p10-met = refl;
+  table-one = refl;
+  again = refl;
+  row-bytes = refl;
+  record-bytes = refl;
+  record-read = refl;
   p8-met = refl;
 }
