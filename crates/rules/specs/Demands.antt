@@ -15,7 +15,7 @@ use Rattle.rules.specs.Together.{Awake}
 use Rattle.rules.specs.Record.{Record}
 use Rattle.rules.specs.Calls.{Arrived, arrive, Stepped, step}
 use Rattle.rules.specs.Run.{Call, arriveCall, Run, runOf}
-use Rattle.rules.specs.History.{ran, Once, Follows, EndsAt, cameBy, planeEnd}
+use Rattle.rules.specs.History.{ran, Once, Within, Working, Follows, EndsAt, cameBy, planeEnd}
 
 -- the k-th plane end is at this tick, and the clock has reached it
 abbrev pub Reached : List Row → Run → ℕ → ℕ → Type 0
@@ -50,10 +50,14 @@ pub record Next (rows : List Row) (h : Run) : Type 0 where
   pub moves : (horizon : ℕ) (room : List ℕ) → 48 ≤ length room → horizon ≤ 4294967295 → h.state.now < horizon * scaleOf rows → step h.state horizon room .answer ≡ Done
 
 -- what is true of any calls
-pub record Course (rows : List Row) (h : Run) : Type 0 where
+pub record Course (rows : List Row) (m : ℕ) (h : Run) : Type 0 where
   -- "It never runs on two processors at one instant"
   pub once : Once h.records
   pub follows : Follows 0 h.records h.state.now
+  -- "Slots past m are 0."
+  pub within : Within m h.records
+  -- who runs has a job
+  pub working : Working (scaleOf rows) rows h.arrivals h.records
   -- a record ends at every plane end that the clock reaches
   pub seams : (k t : ℕ) → Reached rows h (suc k) t → EndsAt (t * scaleOf rows) h.records
 
@@ -61,7 +65,7 @@ pub record Course (rows : List Row) (h : Run) : Type 0 where
 pub record Demand3 : Type 0 where
   pub jobs : (bytes : List ℕ) (m : ℕ) → admit bytes m .answer ≡ Done → (before : List Call) (task : ℕ) → arrive (runOf bytes m before .state) task .answer ≡ Done → (later : List Call)
       → Job (rowsOf bytes) (runOf bytes m (before ++ arriveCall task ∷ later)) task (tickOf (runOf bytes m before .state))
-  pub courses : (bytes : List ℕ) (m : ℕ) → admit bytes m .answer ≡ Done → (calls : List Call) → Course (rowsOf bytes) (runOf bytes m calls)
+  pub courses : (bytes : List ℕ) (m : ℕ) → admit bytes m .answer ≡ Done → (calls : List Call) → Course (rowsOf bytes) m (runOf bytes m calls)
   pub nexts : (bytes : List ℕ) (m : ℕ) → admit bytes m .answer ≡ Done → (calls : List Call) → Next (rowsOf bytes) (runOf bytes m calls)
 
 -- NOTHING ELSE MOVES
