@@ -33,7 +33,7 @@ use Rattle.rules.specs.Table.{Row, rowsOf}
 use Rattle.rules.specs.Together.{Together}
 use Rattle.rules.proofs.Ends.{end-rises}
 use Rattle.rules.proofs.Events.{Core}
-use Rattle.rules.proofs.Calls.{tick-of, arriving-takes}
+use Rattle.rules.proofs.Calls.{tick-of, moving-moves, arriving-takes}
 use Rattle.rules.proofs.Keeping.{not-both}
 use Rattle.rules.proofs.Refusing.{arrive-answers, arrive-exact, step-exact}
 use Rattle.rules.proofs.Standing.{facts}
@@ -191,8 +191,14 @@ next-of rows r G = record { takes = takes; moves = moves }
             go (no q) k y = omega arith
         seen false l a n z = let y : _≡_ {A = ℕ} 0 1 = cc in absurd (omega arith)
 
-    moves : (horizon : ℕ) (room : List ℕ) → 48 ≤ length room → horizon ≤ 4294967295 → r .state .now < horizon * scaleOf rows → step (r .state) horizon room .answer ≡ Done
-    moves h room a b c = unfold step in (step-exact (r .state) h (length room) Done (G .together, a, b, omega (arith, c, ap (λ x. h * x) sc)))
+    moves : (horizon : ℕ) (room : List ℕ) → 48 ≤ length room → horizon ≤ 4294967295 → r .state .now < horizon * scaleOf rows
+        → (step (r .state) horizon room .answer ≡ Done) × (r .state .now < step (r .state) horizon room .state .now) × (step (r .state) horizon room .state .now ≤ horizon * scaleOf rows)
+    moves h room a b c =
+        let lt : r .state .now < h * r .state .scale = omega (arith, c, ap (λ x. h * x) sc) in
+        let d = step-exact (r .state) h (length room) Done (G .together, a, b, lt) in
+        let M = moving-moves (r .state) h (G .together) lt in
+        let S = step-is rows r G h room d .state in
+        (unfold step in d, rw S (omega (arith, M .arrives, M .from-now, M .later)), rw S (omega (arith, M .arrives, M .by-horizon, ap (λ x. h * x) sc)))
 
 -- DEMAND 3
 pub demand-3 : Demand3

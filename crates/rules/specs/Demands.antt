@@ -46,8 +46,9 @@ pub record Next (rows : List Row) (h : Run) : Type 0 where
   -- 9: "the task arrived before, less than p ticks ago"; no other reason refuses a task of the table at a whole tick
   pub takes : (task tick : ℕ) → 1 ≤ task → task ≤ length rows → h.state.now ≡ tick * scaleOf rows
       → (arrive h.state task .answer ≡ Done) ↔ ((a : ℕ) → cameBy task tick h.arrivals ≡ some a → a + getD rows (task - 1) noRow .period ≤ tick)
-  -- a step with room for a record and a horizon ahead, within the clock, is taken
-  pub moves : (horizon : ℕ) (room : List ℕ) → 48 ≤ length room → horizon ≤ 4294967295 → h.state.now < horizon * scaleOf rows → step h.state horizon room .answer ≡ Done
+  -- a step with room for a record and a horizon ahead, within the clock, is taken; the clock moves, and not past the horizon
+  pub moves : (horizon : ℕ) (room : List ℕ) → 48 ≤ length room → horizon ≤ 4294967295 → h.state.now < horizon * scaleOf rows
+      → (step h.state horizon room .answer ≡ Done) × (h.state.now < step h.state horizon room .state .now) × (step h.state horizon room .state .now ≤ horizon * scaleOf rows)
 
 -- what is true of any calls
 pub record Course (rows : List Row) (m : ℕ) (h : Run) : Type 0 where

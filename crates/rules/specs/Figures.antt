@@ -80,6 +80,8 @@ pub record Listings : Type 0 where
       ≡ line 0 194833600 (8 ∷ 4 ∷ 7 ∷ 6 ∷ []) ∷ line 194833600 235144000 (8 ∷ 4 ∷ 7 ∷ 1 ∷ []) ∷ line 235144000 272767040 (8 ∷ 4 ∷ 3 ∷ 1 ∷ [])
       ∷ line 272767040 280789600 (8 ∷ 5 ∷ 3 ∷ 1 ∷ []) ∷ line 280789600 298994640 (2 ∷ 5 ∷ 3 ∷ 1 ∷ []) ∷ line 298994640 300868040 (2 ∷ 6 ∷ 3 ∷ 1 ∷ [])
       ∷ line 300868040 302099525 (2 ∷ 0 ∷ 3 ∷ 1 ∷ []) ∷ line 302099525 324870000 (0 ∷ 0 ∷ 3 ∷ 1 ∷ []) ∷ line 324870000 340958800 (0 ∷ 0 ∷ 0 ∷ 1 ∷ []) ∷ []
+  -- "to the next event or the horizon, whichever is first", with nobody awake too
+  pub idle : listing (row 4 2 4 ∷ []) 1 (towards 1 ∷ towards 5 ∷ towards 5 ∷ []) ≡ line 0 4 (0 ∷ []) ∷ line 4 16 (0 ∷ []) ∷ line 16 20 (0 ∷ []) ∷ []
   -- 9 counts p, not q: a row 10 2 3
   pub again : map againAt (2 ∷ 3 ∷ 9 ∷ 10 ∷ []) ≡ TooSoon ∷ TooSoon ∷ TooSoon ∷ Done ∷ []
   -- bytes as they stand: p, e, D, least byte first; from, to, the slots

@@ -19,4 +19,5 @@ histories = record {
   ends-second = refl;
   ends-without-rows = refl;
   ends-one = refl;
+  ends-early = refl;
 }

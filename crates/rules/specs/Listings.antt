@@ -23,6 +23,7 @@ listings = record {
   p9-met = refl;
   p10-met = refl;
   table-one = refl;
+  idle = refl;
   again = refl;
   row-bytes = refl;
   record-bytes = refl;
