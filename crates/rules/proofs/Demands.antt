@@ -191,6 +191,9 @@ next-of rows r G = record { takes = takes; moves = moves }
             go (no q) k y = omega arith
         seen false l a n z = let y : _≡_ {A = ℕ} 0 1 = cc in absurd (omega arith)
 
+    answered : (h : ℕ) (room : List ℕ) → stepAnswer (r .state) h (length room) ≡ Done → step (r .state) h room .answer ≡ Done
+    answered h room d = unfold step in d
+
     moves : (horizon : ℕ) (room : List ℕ) → 48 ≤ length room → horizon ≤ 4294967295 → r .state .now < horizon * scaleOf rows
         → (step (r .state) horizon room .answer ≡ Done) × (r .state .now < step (r .state) horizon room .state .now) × (step (r .state) horizon room .state .now ≤ horizon * scaleOf rows)
     moves h room a b c =
@@ -198,7 +201,7 @@ next-of rows r G = record { takes = takes; moves = moves }
         let d = step-exact (r .state) h (length room) Done (G .together, a, b, lt) in
         let M = moving-moves (r .state) h (G .together) lt in
         let S = step-is rows r G h room d .state in
-        (unfold step in d, rw S (omega (arith, M .arrives, M .from-now, M .later)), rw S (omega (arith, M .arrives, M .by-horizon, ap (λ x. h * x) sc)))
+        (answered h room d, rw S (omega (arith, M .arrives, M .from-now, M .later)), rw S (omega (arith, M .arrives, M .by-horizon, ap (λ x. h * x) sc)))
 
 -- DEMAND 3
 pub demand-3 : Demand3
