@@ -1,13 +1,16 @@
 -- THE DEMANDS, said of the calls
 use mathlib.Core.Path.{_≡_}
 use mathlib.Core.Bool.{true, false}
-use mathlib.Core.Logic.{_≢_, _⊎_}
+use mathlib.Core.Logic.{_≢_, _⊎_, _↔_}
+use mathlib.Core.Option.{some}
 use mathlib.Core.List.{List, [], _∷_, _++_, foldl, map}
-use Prim.Native.Nat.{ℕ, zero, suc, _/_}
-use lib.ListN.{length, take, drop, replicate}
+use Prim.Native.Nat.{ℕ, zero, suc, _+_, _*_, _-_, _/_, _≤_, _<_}
+use lib.ListN.{length, getD, take, drop, replicate}
 use Rattle.ground.specs.Tests.{if_then_else_, Says}
-use Rattle.rules.specs.Table.{rowsOf, tableBytes}
-use Rattle.rules.specs.State.{at}
+use Rattle.rules.specs.Table.{Row, rowsOf, tableBytes}
+use Rattle.rules.specs.Scale.{scaleOf}
+use Rattle.rules.specs.History.{cameBy}
+use Rattle.rules.specs.State.{noRow, at}
 use Rattle.rules.specs.declared.Answer.the-variants.{Done, NotTogether}
 use Rattle.rules.specs.Answers.{isDone, numberOf}
 use Rattle.rules.specs.Admission.{admit}
@@ -132,13 +135,24 @@ starting bytes m = record { state = admitOf bytes m .state; records = []; arriva
 abbrev pub seen : Calls → Run
 seen r = record { state = view (r .state); records = r .records; arrivals = r .arrivals }
 
+-- what the next call is answered, said of the table and of the arrivals taken: no flag of the state
+pub record Next (rows : List Row) (c : Calls) : Type 0 where
+  -- 9: "the task arrived before, less than p ticks ago"; no other reason refuses a task of the table at a whole tick
+  pub takes : (task tick : ℕ) → 1 ≤ task → task ≤ length rows → c .state .now .0 ≡ tick * scaleOf rows
+      → (arriveOf (c .state) task .answer ≡ Done) ↔ ((a : ℕ) → cameBy task tick (c .arrivals) ≡ some a → a + getD rows (task - 1) noRow .period ≤ tick)
+  -- a step with room for a record and a horizon ahead, within the clock, is taken; the clock moves, and not past the horizon
+  pub moves : (horizon : ℕ) (room : List ℕ) → 48 ≤ length room → horizon ≤ 4294967295 → c .state .now .0 < horizon * scaleOf rows
+      → (stepOf (c .state) horizon (length room) .answer ≡ Done) × (c .state .now .0 < stepOf (c .state) horizon (length room) .state .now .0)
+      × (stepOf (c .state) horizon (length room) .state .now .0 ≤ horizon * scaleOf rows)
+
 -- DEMAND 3: "Start from any admitted table and make any calls, refused ones among them, each on the state the last one handed back."
 pub record Demand3 : Type 0 where
   -- any calls, then an arrival that is taken, then any calls: `Job` says what it is given
   pub jobs : (bytes : List ℕ) (m : ℕ) → admitOf bytes m .answer ≡ Done → (before : List Call) (task : ℕ) → arriveOf (callingAll (starting bytes m) before .state) task .answer ≡ Done → (later : List Call)
       → Job (rowsOf bytes) (seen (callingAll (starting bytes m) (before ++ arriveCall task ∷ later))) task (tickAt (callingAll (starting bytes m) before .state))
   -- one processor at an instant, records that follow one another, a record's end at every plane end
-  pub courses : (bytes : List ℕ) (m : ℕ) → admitOf bytes m .answer ≡ Done → (calls : List Call) → Course (rowsOf bytes) (seen (callingAll (starting bytes m) calls))
+  pub courses : (bytes : List ℕ) (m : ℕ) → admitOf bytes m .answer ≡ Done → (calls : List Call) → Course (rowsOf bytes) m (seen (callingAll (starting bytes m) calls))
+  pub nexts : (bytes : List ℕ) (m : ℕ) → admitOf bytes m .answer ≡ Done → (calls : List Call) → Next (rowsOf bytes) (callingAll (starting bytes m) calls)
   -- an arrival that is taken leaves every other task as it was, but for who has a processor
   pub others : (s : State) (task : ℕ) → Sized s → arriveOf s task .answer ≡ Done → (j : ℕ) → suc j ≢ task → Untouched (at j (tasksAt s)) (at j (tasksAt (arriveOf s task .state)))
 

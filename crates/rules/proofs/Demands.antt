@@ -115,7 +115,7 @@ within-more : (m : ℕ) (rs : List Record) (r : Record) → Within m rs → ((p 
 within-more m [] r o h = (h, tt)
 within-more m (x ∷ rs) r o h = (o .0, within-more m rs r (o .1) h)
 
-abbrev Manned : ℕ → Run → Type 0
+abbrev pub Manned : ℕ → Run → Type 0
 Manned m r = (r .state .m ≡ m) × Within m (r .records)
 
 arrive-m : (s : State) (task : ℕ) → arrive s task .state .m ≡ s.m
@@ -126,7 +126,7 @@ arrive-m s task = go (isDone (arriveAnswer s task))
     go true = unfold arriving in refl
     go false = refl
 
-manned-on : (rows : List Row) (m : ℕ) (r : Run) (c : Call) → Good rows r → Manned m r → Manned m (perform r c)
+pub manned-on : (rows : List Row) (m : ℕ) (r : Run) (c : Call) → Good rows r → Manned m r → Manned m (perform r c)
 manned-on rows m r (arriveCall task) G M = unfold perform in (arrive-m (r .state) task ∙ M .0, M .1)
 manned-on rows m r (stepCall h room) G M =
     by-answer _ (stepAnswer (r .state) h (length room))
@@ -142,7 +142,7 @@ unfolding perform-all
 manned-all rows m [] r G M = M
 manned-all rows m (c ∷ cs) r G M = manned-all rows m cs (perform r c) (perform-good rows r c G) (manned-on rows m r c G M)
 
-start-manned : (bytes : List ℕ) (m : ℕ) → admit bytes m .answer ≡ Done → Manned m (starting (admit bytes m .state))
+pub start-manned : (bytes : List ℕ) (m : ℕ) → admit bytes m .answer ≡ Done → Manned m (starting (admit bytes m .state))
 unfolding admit
 start-manned bytes m d = rw d (refl, tt)
 
