@@ -26,7 +26,7 @@ use Rattle.rules.proofs.Figures.{figures}
 use Rattle.rules.specs.Table.{rowsOf, tableBytes}
 use Rattle.rules.proofs.Jobs.{by-answer, Good}
 use Rattle.rules.proofs.Starting.{admit-passes}
-use Rattle.rules.proofs.Demands.{start-good, job-of, course-of, others-stay}
+use Rattle.rules.proofs.Demands.{start-good, start-manned, job-of, course-of, others-stay}
 use Rattle.rules.specs.Demands.{Untouched}
 use Rattle.rules.proofs.Keeping.{not-both}
 use Rattle.rules.proofs.Refusing.{step-answers, admit-answers}
@@ -47,7 +47,7 @@ use Rattle.calls.specs.Run.{went, runOf, runRoom}
 use Rattle.calls.specs.Step.{movesAnswer, stepAnswerOf, stepOf, stepRoom}
 use Rattle.calls.proofs.Refining.{arrives, holds-whole, whole-holds, step-same}
 use Rattle.calls.proofs.Runs.{run-steps}
-use Rattle.calls.proofs.Serving.{Followed, plain, all-together, calls-followed, seen-good, taken-in}
+use Rattle.calls.proofs.Serving.{Followed, plain, all-together, calls-followed, seen-good, seen-within, seen-next, taken-in}
 use Rattle.calls.proofs.Went.{went-whole}
 use Rattle.rules.specs.Bounds.{clock}
 
@@ -83,13 +83,16 @@ admits bytes m = record {
 }
 
 -- DEMAND 3
-start-followed : (bytes : List ℕ) (m : ℕ) → admitOf bytes m .answer ≡ Done → Followed (rowsOf bytes) (starting bytes m)
+start-followed : (bytes : List ℕ) (m : ℕ) → admitOf bytes m .answer ≡ Done → Followed (rowsOf bytes) m (starting bytes m)
 start-followed bytes m d =
     let w = admit-whole bytes m d in
-    (Rule.starting (admit bytes m .state), record { whole = w .0; same = w .1; records = refl; arrivals = refl }, start-good bytes m (sym (answer-same bytes m .0) ∙ d))
+    (Rule.starting (admit bytes m .state), record { whole = w .0; same = w .1; records = refl; arrivals = refl }, start-good bytes m (sym (answer-same bytes m .0) ∙ d), start-manned bytes m (sym (answer-same bytes m .0) ∙ d))
+
+followed : (bytes : List ℕ) (m : ℕ) → admitOf bytes m .answer ≡ Done → (cs : List Say.Call) → Followed (rowsOf bytes) m (callingAll (starting bytes m) cs)
+followed bytes m d cs = calls-followed (rowsOf bytes) m cs (starting bytes m) (start-followed bytes m d)
 
 calls-good : (bytes : List ℕ) (m : ℕ) → admitOf bytes m .answer ≡ Done → (cs : List Say.Call) → Good (rowsOf bytes) (seen (callingAll (starting bytes m) cs))
-calls-good bytes m d cs = seen-good (rowsOf bytes) (callingAll (starting bytes m) cs) (calls-followed (rowsOf bytes) cs (starting bytes m) (start-followed bytes m d))
+calls-good bytes m d cs = seen-good (rowsOf bytes) m (callingAll (starting bytes m) cs) (followed bytes m d cs)
 
 arrive-13 : (s : State) (task : ℕ) → holdsOf s ≡ false → arriveOf s task .answer ≡ NotTogether
 unfolding arriveOf arriveAnswerOf
@@ -108,7 +111,8 @@ demand-3 = record {
   jobs = λ bytes m d before task a later.
       let h = callingAll (starting bytes m) (before ++ Say.arriveCall task ∷ later) in
       job-of (rowsOf bytes) (seen h) (calls-good bytes m d (before ++ Say.arriveCall task ∷ later)) _ (taken-in (starting bytes m) before task a later);
-  courses = λ bytes m d calls. course-of (rowsOf bytes) (seen (callingAll (starting bytes m) calls)) (calls-good bytes m d calls);
+  courses = λ bytes m d calls. course-of (rowsOf bytes) m (seen (callingAll (starting bytes m) calls)) (calls-good bytes m d calls) (seen-within (rowsOf bytes) m (callingAll (starting bytes m) calls) (followed bytes m d calls));
+  nexts = λ bytes m d calls. seen-next (rowsOf bytes) m (callingAll (starting bytes m) calls) (followed bytes m d calls);
   others = others;
 }
   where

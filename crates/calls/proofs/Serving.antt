@@ -5,6 +5,7 @@ use mathlib.Core.Option.{some}
 use mathlib.Core.Logic.{inl, inr}
 use mathlib.Core.List.{List, [], _∷_, _++_, map}
 use Prim.Native.Nat.{ℕ, zero, suc}
+use native.Mathlib.Omega.{arith}
 use lib.ListN.{length, replicate}
 use Rattle.rules.specs.declared.Answer.{Answer}
 use Rattle.rules.specs.declared.Answer.the-variants.{Done}
@@ -17,10 +18,12 @@ use Rattle.rules.specs.Answers.{isDone}
 use Rattle.rules.specs.Record.{Record, readRecord}
 use Rattle.rules.specs.Run.{perform, perform-all}
 use Rattle.rules.specs.Table.{Row}
-use Rattle.rules.proofs.Jobs.{In, Good, perform-good}
+use Rattle.rules.specs.History.{In, Within}
+use Rattle.rules.proofs.Jobs.{Good, perform-good}
+use Rattle.rules.proofs.Demands.{Manned, manned-on, next-of}
 use Rattle.plane.specs.Machine.{tickAt}
 use Rattle.plane.specs.View.{view}
-use Rattle.calls.specs.Demands.{Call, arriveCall, stepCall, runCall, Calls, calling, callingAll, seen, oneStep}
+use Rattle.calls.specs.Demands.{Call, arriveCall, stepCall, runCall, Calls, calling, callingAll, seen, NextOf, oneStep}
 use Rattle.calls.specs.Arrive.{arriveOf}
 use Rattle.calls.specs.Step.{stepOf, stepRoom}
 use Rattle.calls.specs.Run.{runOf}
@@ -91,36 +94,57 @@ all-together [] r q T = T
 all-together (c ∷ cs) r q T = all-together cs (calling r (plain c)) (perform q c) (plain-together r q c T)
 
 -- some run of the rules goes with the calls, and it is good
-abbrev pub Followed : List Row → Calls → Type 0
-Followed rows r = (q : Runs.Run) × Together-run r q × Good rows q
+abbrev pub Followed : List Row → ℕ → Calls → Type 0
+Followed rows m r = (q : Runs.Run) × Together-run r q × Good rows q × Manned m q
 
-module _ (rows : List Row) where
-  step-followed : (r : Calls) (h : ℕ) (room : List ℕ) → Followed rows r → Followed rows (calling r (stepCall h room))
-  step-followed r h room F = (perform (F .0) (Runs.stepCall h room), step-together r (F .0) h room (F .1), perform-good rows (F .0) (Runs.stepCall h room) (F .2))
+module _ (rows : List Row) (m : ℕ) where
+  step-followed : (r : Calls) (h : ℕ) (room : List ℕ) → Followed rows m r → Followed rows m (calling r (stepCall h room))
+  step-followed r h room F = (perform (F .0) (Runs.stepCall h room), step-together r (F .0) h room (F .1), perform-good rows (F .0) (Runs.stepCall h room) (F .2), manned-on rows m (F .0) (Runs.stepCall h room) (F .2) (F .3))
 
-  steps-followed : (n h : ℕ) (r : Calls) → Followed rows r → Followed rows (callingAll r (replicate n (oneStep h)))
+  steps-followed : (n h : ℕ) (r : Calls) → Followed rows m r → Followed rows m (callingAll r (replicate n (oneStep h)))
   unfolding callingAll
   steps-followed zero h r F = F
   steps-followed (suc n) h r F = steps-followed n h (calling r (oneStep h)) (step-followed r h (replicate 48 0) F)
 
-  call-followed : (r : Calls) (c : Call) → Followed rows r → Followed rows (calling r c)
-  call-followed r (arriveCall task) F = (perform (F .0) (Runs.arriveCall task), arrive-together r (F .0) task (F .1), perform-good rows (F .0) (Runs.arriveCall task) (F .2))
+  call-followed : (r : Calls) (c : Call) → Followed rows m r → Followed rows m (calling r c)
+  call-followed r (arriveCall task) F = (perform (F .0) (Runs.arriveCall task), arrive-together r (F .0) task (F .1), perform-good rows (F .0) (Runs.arriveCall task) (F .2), manned-on rows m (F .0) (Runs.arriveCall task) (F .2) (F .3))
   call-followed r (stepCall h room) F = step-followed r h room F
   call-followed r (runCall h room) F =
-      subst (Followed rows) (sym (run-called r h room (F .1 .whole))) (steps-followed (runOf (r .state) h (length room) .records) h r F)
+      subst (Followed rows m) (sym (run-called r h room (F .1 .whole))) (steps-followed (runOf (r .state) h (length room) .records) h r F)
 
-  pub calls-followed : (cs : List Call) (r : Calls) → Followed rows r → Followed rows (callingAll r cs)
+  pub calls-followed : (cs : List Call) (r : Calls) → Followed rows m r → Followed rows m (callingAll r cs)
   unfolding callingAll
   calls-followed [] r F = F
   calls-followed (c ∷ cs) r F = calls-followed cs (calling r c) (call-followed r c F)
 
   -- what the rules serve the calls serve
-  pub seen-good : (r : Calls) → Followed rows r → Good rows (seen r)
+  pub seen-good : (r : Calls) → Followed rows m r → Good rows (seen r)
   seen-good r F = subst (Good rows) (sym (same (F .1 .same) (F .1 .records) (F .1 .arrivals))) (F .2)
     where
       same : {a b : Rules.State} {rs qs : List Record} {xs ys : List Runs.Arrival} → a ≡ b → rs ≡ qs → xs ≡ ys
           → _≡_ {A = Runs.Run} (record { state = a; records = rs; arrivals = xs }) (record { state = b; records = qs; arrivals = ys })
       same p q r = rw (p, q, r)
+
+  pub seen-within : (r : Calls) → Followed rows m r → Within m (r .records)
+  seen-within r F = subst (Within m) (sym (F .1 .records)) (F .3 .1)
+
+  pub seen-next : (r : Calls) → Followed rows m r → NextOf rows r
+  seen-next r F =
+      let N = next-of rows (seen r) (seen-good r F) in
+      let W = F .1 .whole in
+      record {
+        takes = λ task tick lo hi e. let x = N .takes task tick lo hi e in let a = arrive-answered (r .state) task W in ((λ d. x .0 (sym a ∙ d)), (λ f. a ∙ x .1 f));
+        moves = λ h room a b c.
+            let x = N .moves h room a b c in
+            let n = ap (λ (s : Rules.State). s .now) (step-kept (r .state) h room W .kept .same) in
+            (step-answered (r .state) h room W ∙ x .0, omega (arith, n, x .1), omega (arith, n, x .2));
+      }
+    where
+      arrive-answered : (s : State) (task : ℕ) → Whole s → arriveOf s task .answer ≡ Rule.arrive (view s) task .answer
+      arrive-answered s task W = unfold arriveOf Rule.arrive in (arrive-same s task W)
+
+      step-answered : (s : State) (h : ℕ) (room : List ℕ) → Whole s → stepOf s h (length room) .answer ≡ Rule.step (view s) h room .answer
+      step-answered s h room W = unfold stepOf Rule.step in (step-same s h (length room) W)
 
 -- an arrival once taken stays among the arrivals
 still-in : (x : Runs.Arrival) (r : Calls) (c : Call) → In x (r .arrivals) → In x (calling r c .arrivals)

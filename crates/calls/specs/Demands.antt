@@ -6,7 +6,7 @@ use mathlib.Core.List.{List, [], _∷_, _++_, foldl, map}
 use Prim.Native.Nat.{ℕ, zero, suc, _/_}
 use lib.ListN.{length, take, drop, replicate}
 use Rattle.ground.specs.Tests.{if_then_else_, Says}
-use Rattle.rules.specs.Table.{rowsOf, tableBytes}
+use Rattle.rules.specs.Table.{Row, rowsOf, tableBytes}
 use Rattle.rules.specs.State.{at}
 use Rattle.rules.specs.declared.Answer.the-variants.{Done, NotTogether}
 use Rattle.rules.specs.Answers.{isDone, numberOf}
@@ -14,7 +14,7 @@ use Rattle.rules.specs.Admission.{admit}
 use Rattle.rules.specs.Record.{Record, readRecord}
 use Rattle.rules.specs.Calls.{arrive, step}
 use Rattle.rules.specs.Run.{Arrival, Run}
-use Rattle.rules.specs.Demands.{Job, Course, Untouched}
+use Rattle.rules.specs.Demands.{Job, Course, Next, Untouched}
 use Rattle.rules.specs.Figures.{tableP1, line}
 use Rattle.plane.specs.declared.State.{State}
 use Rattle.plane.specs.Machine.{tickAt}
@@ -132,13 +132,18 @@ starting bytes m = record { state = admitOf bytes m .state; records = []; arriva
 abbrev pub seen : Calls → Run
 seen r = record { state = view (r .state); records = r .records; arrivals = r .arrivals }
 
+-- what the next call is answered
+abbrev pub NextOf : List Row → Calls → Type 0
+NextOf rows c = Next rows (seen c) (λ task. arriveOf (c .state) task .answer) (λ horizon room. let x = stepOf (c .state) horizon (length room) in (x .answer, x .state .now .0))
+
 -- DEMAND 3: "Start from any admitted table and make any calls, refused ones among them, each on the state the last one handed back."
 pub record Demand3 : Type 0 where
   -- any calls, then an arrival that is taken, then any calls: `Job` says what it is given
   pub jobs : (bytes : List ℕ) (m : ℕ) → admitOf bytes m .answer ≡ Done → (before : List Call) (task : ℕ) → arriveOf (callingAll (starting bytes m) before .state) task .answer ≡ Done → (later : List Call)
       → Job (rowsOf bytes) (seen (callingAll (starting bytes m) (before ++ arriveCall task ∷ later))) task (tickAt (callingAll (starting bytes m) before .state))
   -- one processor at an instant, records that follow one another, a record's end at every plane end
-  pub courses : (bytes : List ℕ) (m : ℕ) → admitOf bytes m .answer ≡ Done → (calls : List Call) → Course (rowsOf bytes) (seen (callingAll (starting bytes m) calls))
+  pub courses : (bytes : List ℕ) (m : ℕ) → admitOf bytes m .answer ≡ Done → (calls : List Call) → Course (rowsOf bytes) m (seen (callingAll (starting bytes m) calls))
+  pub nexts : (bytes : List ℕ) (m : ℕ) → admitOf bytes m .answer ≡ Done → (calls : List Call) → NextOf (rowsOf bytes) (callingAll (starting bytes m) calls)
   -- an arrival that is taken leaves every other task as it was, but for who has a processor
   pub others : (s : State) (task : ℕ) → Sized s → arriveOf s task .answer ≡ Done → (j : ℕ) → suc j ≢ task → Untouched (at j (tasksAt s)) (at j (tasksAt (arriveOf s task .state)))
 

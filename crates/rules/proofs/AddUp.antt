@@ -26,6 +26,8 @@ listings = record {
   one-critical = refl;
   least-key = refl;
   full-share = refl;
+  idle = refl;
+  table-one = refl;
 }
 
 pub handed : Handed
@@ -99,12 +101,14 @@ answered = record {
   p9-met = refl;
   p10-met = refl;
   by-period = refl;
+  by-period-again = refl;
   refused-arrival = refl;
   clash-steps = refl;
   room-47 = refl;
   past-clock = refl;
   to-last-tick = refl;
   refused-step = refl;
+  row-bytes = refl;
   written = refl;
   read = refl;
   counted = refl;
@@ -127,4 +131,5 @@ histories = record {
   ends-second = refl;
   ends-without-rows = refl;
   ends-one = refl;
+  ends-early = refl;
 }

@@ -18,7 +18,7 @@ use Rattle.ground.proofs.Tests.{leb-says, ltb-says, eqb-says, is-true, is-false
 use Rattle.rules.specs.Answers.{isDone}
 use Rattle.rules.specs.Calls.{lowestIdle, arriveIn, arriving, arriveAnswer, arrive, after, moving, stepAnswer, step}
 use Rattle.rules.specs.Demands.{Reached, Job}
-use Rattle.rules.specs.History.{earliest, limitsBy, ran, Once, Follows, EndsAt, cameBy, limitBy, planeEnd}
+use Rattle.rules.specs.History.{earliest, limitsBy, ran, Once, In, Working, Follows, EndsAt, cameBy, limitBy, planeEnd}
 use Rattle.rules.specs.Planes.{limit, endOf}
 use Rattle.rules.specs.Reasons.{ArriveReason, StepReason}
 use Rattle.rules.specs.Record.{Record}
@@ -33,17 +33,13 @@ use Rattle.rules.proofs.Ends.{end-next, ends-more, ends-last, end-kept,
 use Rattle.rules.proofs.Events.{Core}
 use Rattle.rules.proofs.Calls.{tick-of, open-parts, shut-parts, moving-keeps, Moves, moving-moves, Comes, comes-asleep, arriving-keeps, Takes, arriving-takes}
 use Rattle.rules.proofs.Keeping.{rows-same, not-both}
+use Rattle.rules.proofs.Places.{inside}
 use Rattle.rules.proofs.Reading.{record-read}
 use Rattle.rules.proofs.Refusing.{arrive-answers, step-answers}
 use Rattle.rules.proofs.Standing.{Facts, facts, row-at}
 use Rattle.rules.proofs.Serving.{endIn, Does, moving-does}
 
 -- RUNS
--- x is one of the arrivals
-abbrev pub In : Arrival → List Arrival → Type 0
-In x [] = ⊥
-In x (y ∷ ys) = (x ≡ y) ⊎ In x ys
-
 -- the last arrival of a task, if it had one
 abbrev pub lastOf : Task → Option ℕ
 lastOf t = if t.arrived then some t.last else none
@@ -65,6 +61,7 @@ pub record Good (rows : List Row) (r : Run) : Type 0 where
   pub books : Books (r .state) (r .state .plane) (r .records)
   pub once : Once (r .records)
   pub follows : Follows 0 (r .records) (r .state .now)
+  pub working : Working (scaleOf rows) rows (r .arrivals) (r .records)
   pub latest : (j : ℕ) → j < length rows → (t : ℕ) → r .state .now ≤ t * scaleOf rows → cameBy (suc j) t (r .arrivals) ≡ lastOf (at j (r .state .tasks))
   pub plane : (k : ℕ) × InPlane rows r k (r .state .plane)
   pub seams : (k t : ℕ) → Reached rows r (suc k) t → EndsAt (t * scaleOf rows) (r .records)
@@ -100,19 +97,19 @@ limit-case q t a false false known due early = refl
 
 -- what the table of a good run gives
 module _ (rows : List Row) (r : Run) (G : Good rows r) where
-  F : Facts (r .state .m) (r .state .scale) (r .state .tasks)
+  pub F : Facts (r .state .m) (r .state .scale) (r .state .tasks)
   F = facts (r .state .tasks) (G .together .table)
 
-  scale-is : r .state .scale ≡ scaleOf rows
+  pub scale-is : r .state .scale ≡ scaleOf rows
   scale-is = G .together .table .scale-is ∙ ap scaleOf (G .rows-are)
 
   pos : 0 < scaleOf rows
   pos = subst (λ l. 0 < l) scale-is (F .scale-pos)
 
-  size-is : length rows ≡ length (r .state .tasks)
+  pub size-is : length rows ≡ length (r .state .tasks)
   size-is = ap length (sym (G .rows-are)) ∙ length-map (r .state .tasks) (λ (t : Task). t.row)
 
-  row-is : (j : ℕ) → at j (r .state .tasks) .row ≡ getD rows j noRow
+  pub row-is : (j : ℕ) → at j (r .state .tasks) .row ≡ getD rows j noRow
   row-is j = sym (row-at (r .state .tasks) j) ∙ ap (λ (x : List Row). getD x j noRow) (G .rows-are)
 
   some-row : 0 < length rows
@@ -182,6 +179,17 @@ follows-more from now (x ∷ rs) r F e h = (F .0, F .1, follows-more (x .to) now
 once-more : (rs : List Record) (r : Record) → Once rs → ((j : ℕ) → times (suc j) r.slots ≤ 1) → Once (rs ++ (r ∷ []))
 once-more [] r o h = (h, tt)
 once-more (x ∷ rs) r o h = (o .0, once-more rs r (o .1) h)
+
+abbrev Has : ℕ → List Row → List Arrival → Record → Type 0
+Has L rows xs r = (j : ℕ) → 0 < times (suc j) r.slots → (a : ℕ) × In (record { task = suc j; tick = a }) xs × (a * L ≤ r.from) × (r.to ≤ (a + shorter (getD rows j noRow)) * L)
+
+working-more : (L : ℕ) (rows : List Row) (xs : List Arrival) (rs : List Record) (r : Record) → Working L rows xs rs → Has L rows xs r → Working L rows xs (rs ++ (r ∷ []))
+working-more L rows xs [] r o h = (h, tt)
+working-more L rows xs (x ∷ rs) r o h = (o .0, working-more L rows xs rs r (o .1) h)
+
+working-arrival : (L : ℕ) (rows : List Row) (y : Arrival) (xs : List Arrival) (rs : List Record) → Working L rows xs rs → Working L rows (y ∷ xs) rs
+working-arrival L rows y xs [] o = tt
+working-arrival L rows y xs (r ∷ rs) o = ((λ j h. let W = o .0 j h in (W .0, inr (W .1), W .2, W .3)), working-arrival L rows y xs rs (o .1))
 
 -- A STEP THAT IS NOT REFUSED
 -- and what its record reads back as
@@ -285,6 +293,21 @@ module _ (rows : List Row) (r : Run) (G : Good rows r) (h : ℕ) (room : List �
               let len : a + q - a ≡ q = omega arith in
               (served W (a + q) te z ∙ rw len (exact-share rows r G (n - 1) (omega arith)), ends-last ((a + q) * L) (r .records) (moving (r .state) h .rec) z)
 
+  has-after : Has (scaleOf rows) rows (r .arrivals) (moving (r .state) h .rec)
+  has-after j w =
+      let aw = D .works j w in
+      let u = at j (r .state .tasks) in
+      let known = G .together .lasts .known j aw in
+      let came : u .last * scaleOf rows ≤ r .state .now = omega (arith, G .together .lasts .came j known, ap (λ x. u .last * x) (scale-is rows r G)) in
+      let hj : j < length rows = omega (arith, size-is rows r G, inside (λ (t : Task). if isAwake (t .cond) then 1 else 0) (r .state .tasks) j refl (rw aw (omega arith))) in
+      let t = suc (r .state .now) in
+      let here = came-in (suc j) t (u .last) (r .arrivals) (G .latest j hj t (far (r .state .now) (pos rows r G)) ∙ ap (λ b. if b then some (u .last) else none) known) in
+      let due : e ≤ u .last + shorter (getD rows j noRow) = omega (arith, D .due j aw, ap shorter (row-is rows r G j)) in
+      (u .last, here, omega (arith, came, M .from-now), omega (arith, up-to-end, mul-le-mul-right L due))
+    where
+      far : (n : ℕ) → 0 < scaleOf rows → n ≤ suc n * scaleOf rows
+      far n p = let p′ : 1 ≤ scaleOf rows = p in omega (arith, native.Mathlib.Nat.mul-le-mul-left (suc n) p′)
+
   seams-after : (k t : ℕ) → Reached rows made (suc k) t → EndsAt (t * L) (made .records)
   seams-after k t R = go (reached-by rows r G (suc k) t to (R .0) (omega (arith, R .1, M .arrives)) up-to-end)
     where
@@ -312,6 +335,7 @@ module _ (rows : List Row) (r : Run) (G : Good rows r) (h : ℕ) (room : List �
         books = D .books;
         once = once-more (r .records) (x .rec) (G .once) (D .once);
         follows = rw (M .arrives) (follows-more 0 (s .now) (r .records) (x .rec) (G .follows) (M .from-now) (M .later));
+        working = working-more (scaleOf rows) rows (r .arrivals) (r .records) (x .rec) (G .working) has-after;
         latest = λ j hj t le. G .latest j hj t (omega (arith, M .from-now, M .later, M .arrives)) ∙ sym (last-same (at j (x .state .tasks)) (at j s.tasks) (A .arrived j) (A .last j));
         plane = plane-after;
         seams = seams-after;
@@ -324,7 +348,7 @@ module _ (rows : List Row) (r : Run) (G : Good rows r) (h : ℕ) (room : List �
       run-is p q = rw (p, q)
 
 -- refused, a call changes nothing
-step-refused : (r : Run) (h : ℕ) (room : List ℕ) → isDone (stepAnswer (r .state) h (length room)) ≡ false → perform r (stepCall h room) ≡ r
+pub step-refused : (r : Run) (h : ℕ) (room : List ℕ) → isDone (stepAnswer (r .state) h (length room)) ≡ false → perform r (stepCall h room) ≡ r
 unfolding perform step
 step-refused r h room e = rw e
 
@@ -450,6 +474,7 @@ module _ (rows : List Row) (r : Run) (G : Good rows r) (task : ℕ) (R : ArriveR
     books = unfold arriving in (arrive-books (r .state) (r .records) (task - 1) (G .together) C (r .state .plane) refl (G .books));
     once = G .once;
     follows = unfold arriving in (G .follows);
+    working = working-arrival (scaleOf rows) rows this (r .arrivals) (r .records) (G .working);
     latest = λ j hj t le. latest-now j hj t (omega (arith, le, same-now));
     plane = unfold arriving in plane-now;
     seams = λ k t W. G .seams k t (reached-before (suc k) t W);

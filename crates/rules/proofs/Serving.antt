@@ -21,7 +21,7 @@ use Rattle.rules.specs.History.{ran, Follows}
 use Rattle.rules.specs.Events.{spend, nextAt}
 use Rattle.rules.specs.Planes.{endOf, openTasks, openAt, openCase, opened}
 use Rattle.rules.specs.Record.{Record, onProc, slotsOf}
-use Rattle.rules.specs.State.{resting, waiting, Cond, asleep, running, Task, State, at, be, short, runsOf, proc, runs, tickOf}
+use Rattle.rules.specs.State.{resting, waiting, Cond, asleep, running, Task, State, at, isAwake, be, short, runsOf, proc, runs, tickOf}
 use Rattle.rules.specs.Together.{Awake, Together}
 use Rattle.rules.proofs.Books.{Running-books, Books, opens-books, runs-on-books, ends-exact, closes-books}
 use Rattle.rules.proofs.Events.{Core}
@@ -88,6 +88,8 @@ endIn s (some e) = e
 pub record Does (L : ℕ) (s : State) (e : ℕ) (rs : List Record) (x : Moved) : Type 0 where
   pub written : Written (x .rec)
   pub once : (j : ℕ) → times (suc j) (x .rec .slots) ≤ 1
+  -- who is in a slot is awake
+  pub works : (j : ℕ) → 0 < times (suc j) (x .rec .slots) → Awake (at j s.tasks)
   pub books : Books (x .state) (x .state .plane) (rs ++ (x .rec ∷ []))
   pub alike : Alike s.tasks (x .state .tasks)
   pub ahead : s.now < e * L
@@ -139,6 +141,15 @@ module _ (s : State) (rs : List Record) (h e : ℕ) (P : Running s.m s.scale s.n
       run-one (running p a) = omega arith
       run-one (waiting a) = omega arith
 
+  works-this : (j : ℕ) → 0 < times (suc j) (slotsOf s.m s.tasks) → Awake (at j s.tasks)
+  works-this j h = run-awake (at j s.tasks .cond) (omega (arith, h, slots-ok s.tasks (running-stands s.tasks P .fits) j))
+    where
+      run-awake : (c : Cond) → 0 < runsOf c → isAwake c ≡ true
+      run-awake asleep h = absurd (omega arith)
+      run-awake resting h = refl
+      run-awake (running p a) h = refl
+      run-awake (waiting a) h = refl
+
   written-this : h ≤ clock → Written (record { from = s.now; to = nextAt (e * s.scale) s.now s.tasks (h * s.scale); slots = slotsOf s.m s.tasks })
   written-this hc =
       let c : to ≤ clock * s.scale = omega (arith, N .by-stop, mul-le-mul-right s.scale hc) in
@@ -158,6 +169,7 @@ module _ (s : State) (rs : List Record) (h e : ℕ) (P : Running s.m s.scale s.n
       record {
         written = written-this hc;
         once = once-this;
+        works = works-this;
         books = after-books b says;
         alike = after-alike b says;
         ahead = P .going .later;
@@ -180,6 +192,7 @@ case-does s rs h H f lt hc none q B =
     record {
       written = D .written;
       once = D .once;
+      works = λ j h. sym (O .awake j) ∙ D .works j h;
       books = D .books;
       alike = alike-trans A (D .alike);
       ahead = D .ahead;

@@ -1,6 +1,6 @@
 -- FIGURES ON ANSWERS, in document 01's numbers, and on whole results
 use mathlib.Core.Path.{_≡_}
-use mathlib.Core.Bool.{Bool, true, false}
+use mathlib.Core.Bool.{true, false}
 use mathlib.Core.List.{List, [], _∷_, _++_, map}
 use Prim.Native.Nat.{ℕ}
 use lib.ListN.{replicate}
@@ -9,12 +9,11 @@ use Rattle.ground.specs.Sums.{upFrom, times}
 use Rattle.rules.specs.declared.Answer.{Answer}
 use Rattle.rules.specs.declared.Answer.the-variants.{Done, Processors, TableLength, RowRange, RowExecution, Scale, Shares, TaskNumber, BetweenTicks, TooSoon, HorizonPastClock, HorizonNotLater, RoomTooShort, NotTogether, TextForm}
 use Rattle.rules.specs.Answers.{numberOf, isDone}
-use Rattle.rules.specs.Table.{Row, tableBytes}
-use Rattle.rules.specs.Admission.{Verdict, Admitted, admit, admitVerdict}
+use Rattle.rules.specs.Table.{Row, rowsOf, tableBytes}
+use Rattle.rules.specs.Admission.{admit, admitVerdict}
 use Rattle.rules.specs.State.{running, State}
-use Rattle.rules.specs.Record.{Record, readRecord}
-use Rattle.rules.specs.Calls.{arriveAnswer, stepAnswer, Arrived, Stepped, arrive, step}
-use Rattle.rules.specs.Run.{Run}
+use Rattle.rules.specs.Record.{readRecord}
+use Rattle.rules.specs.Calls.{arriveAnswer, stepAnswer, arrive, step}
 use Rattle.rules.specs.Listings.{row, line, arrives, until, followed, sharesIn, scaleIn, tableP1}
 use Rattle.rules.specs.Handed.{underway, between, untouched, yet-to-come, _▷_, present, task, amounts, came}
 
@@ -95,6 +94,8 @@ pub record Answered : Type 0 where
   pub p9-met : numberOf (arriveAnswer (onceAt 4 (row 4 2 4)) 1) ≡ 0
   pub p10-met : numberOf (arriveAnswer (onceAt 3 (row 4 2 4)) 1) ≡ 9
   pub by-period : numberOf (arriveAnswer (onceAt 2 (row 2 1 6)) 1) ≡ 0
+  -- and by p, where D is before it: a row 10 2 3
+  pub by-period-again : map (λ tick. numberOf (arriveAnswer (onceAt tick (row 10 2 3)) 1)) (2 ∷ 3 ∷ 9 ∷ 10 ∷ []) ≡ 9 ∷ 9 ∷ 9 ∷ 0 ∷ []
   -- "Other refusals return the given state unchanged"
   pub refused-arrival : arriveGives underway 1 ≡ (8, underway)
   -- STEP. 13 before 12, 12 before 10
@@ -105,6 +106,8 @@ pub record Answered : Type 0 where
   pub to-last-tick : numberOf (stepAnswer underway 4294967295 48) ≡ 0
   -- 11: 1 · 4 is before 5; "and write nothing"
   pub refused-step : stepGives underway 1 (replicate 50 9) ≡ (11, underway, replicate 50 9)
+  -- A ROW'S BYTES: p, e, D, "each 32 bits, least byte first"
+  pub row-bytes : rowsOf (1 ∷ 2 ∷ 0 ∷ 0 ∷ 5 ∷ 0 ∷ 0 ∷ 0 ∷ 3 ∷ 1 ∷ 0 ∷ 0 ∷ []) ≡ row 513 5 259 ∷ []
   -- A RECORD'S BYTES: 0 to 300, task 1, and "Bytes of the room after the 48th are unchanged."
   pub written : step (onceAt 0 (row 20 15 20)) 20 (replicate 50 9) .room ≡ replicate 8 0 ++ (44 ∷ 1 ∷ replicate 6 0) ++ (1 ∷ replicate 31 0) ++ (9 ∷ 9 ∷ [])
   -- and read back: of the bytes 0 to 47, from and to are eight bytes each, a slot is two

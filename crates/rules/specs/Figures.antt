@@ -1,11 +1,11 @@
 -- FIGURES TO CHECK AGAINST: P1 to P10 of document 01, and what they leave open. One list
 use mathlib.Core.Path.{_≡_}
-use mathlib.Core.Bool.{Bool, true}
-use mathlib.Core.List.{List, [], _∷_}
+use mathlib.Core.Bool.{true}
+use mathlib.Core.List.{[], _∷_}
 use Prim.Native.Nat.{ℕ, _+_, _*_, _-_, _≤_, _<_, min}
 use lib.ListN.{length}
 use Rattle.rules.specs.Answers.{numberOf}
-use Rattle.rules.specs.State.{Task, State, at, period}
+use Rattle.rules.specs.State.{State, at, period}
 use Rattle.rules.specs.Together.{InRange}
 use Rattle.rules.specs.Reasons.{ProcessorsOk}
 use Rattle.rules.specs.Holds.{holds}

@@ -1,12 +1,12 @@
 -- FIGURES OF HISTORIES: what ran, the arrivals that were taken, and the plane ends that they give
 use mathlib.Core.Path.{_≡_}
-use mathlib.Core.Option.{Option, none, some}
+use mathlib.Core.Option.{none, some}
 use mathlib.Core.List.{List, [], _∷_, map}
 use Prim.Native.Nat.{ℕ}
 use Rattle.ground.specs.Sums.{upFrom}
 use Rattle.rules.specs.Table.{Row, tableBytes}
 use Rattle.rules.specs.Record.{Record}
-use Rattle.rules.specs.Run.{Call, arriveCall, Arrival, Run, runOf}
+use Rattle.rules.specs.Run.{Call, arriveCall, Arrival, runOf}
 use Rattle.rules.specs.History.{ran, cameBy, planeEnd}
 use Rattle.rules.specs.Listings.{row, line, towards}
 
@@ -45,3 +45,5 @@ pub record Histories : Type 0 where
   pub ends-second : map (planeEnd (row 9 1 9 ∷ row 4 1 4 ∷ []) (came 2 1 ∷ [])) (upFrom 0 4) ≡ 0 ∷ 4 ∷ 5 ∷ 9 ∷ []
   pub ends-without-rows : planeEnd [] [] 1 ≡ 0
   pub ends-one : map (planeEnd (row 9 1 9 ∷ []) (came 1 3 ∷ [])) (upFrom 0 3) ≡ 0 ∷ 9 ∷ 12 ∷ []
+  -- a row 10 2 3 that came at 0: asleep, it counts from the present
+  pub ends-early : map (planeEnd (row 10 2 3 ∷ []) (came 1 0 ∷ [])) (upFrom 0 5) ≡ 0 ∷ 3 ∷ 6 ∷ 9 ∷ 12 ∷ []

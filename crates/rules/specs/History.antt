@@ -1,11 +1,13 @@
 -- WHAT IS READ OFF THE RECORDS AND THE ARRIVALS
 use mathlib.Core.Path.{_≡_}
-use mathlib.Core.Bool.{Bool, true, false, _&&_}
+use mathlib.Core.Bool.{_&&_}
 use mathlib.Core.Option.{Option, none, some}
 use mathlib.Core.Logic.{_⊎_}
 use mathlib.Core.List.{List, [], _∷_}
 use Prim.Native.Nat.{ℕ, zero, suc, _+_, _*_, _-_, _≤_, _<_, min, max}
 use lib.Dec.{leb, ltb, eqb}
+use lib.ListN.{getD}
+use Rattle.rules.specs.State.{noRow}
 use Rattle.ground.specs.Tests.{if_then_else_}
 use Rattle.ground.specs.Sums.{sumOf, times}
 use Rattle.rules.specs.Table.{Row, shorter}
@@ -35,6 +37,23 @@ Follows from (r ∷ rs) now = (r.from ≡ from) × (r.from < r.to) × Follows r.
 abbrev pub EndsAt : ℕ → List Record → Type 0
 EndsAt to [] = ⊥
 EndsAt to (r ∷ rs) = (r.to ≡ to) ⊎ EndsAt to rs
+
+-- "Slots past m are 0": no more than m processors run
+abbrev pub Within : ℕ → List Record → Type 0
+Within m [] = Unit {0}
+Within m (r ∷ rs) = ((p : ℕ) → m ≤ p → getD r.slots p 0 ≡ 0) × Within m rs
+
+-- x is one of the arrivals
+abbrev pub In : Arrival → List Arrival → Type 0
+In x [] = ⊥
+In x (y ∷ ys) = (x ≡ y) ⊎ In x ys
+
+-- nobody runs without a job: who is in a slot came by the record's beginning, and the record ends by q after that; L is the scale
+abbrev pub Working : ℕ → List Row → List Arrival → List Record → Type 0
+Working L rows xs [] = Unit {0}
+Working L rows xs (r ∷ rs) =
+    ((j : ℕ) → 0 < times (suc j) r.slots → (a : ℕ) × In (record { task = suc j; tick = a }) xs × (a * L ≤ r.from) × (r.to ≤ (a + shorter (getD rows j noRow)) * L))
+    × Working L rows xs rs
 
 -- PLANE ENDS
 -- the latest arrival of task n up to a tick

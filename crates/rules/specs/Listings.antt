@@ -1,14 +1,14 @@
 -- FIGURES THAT ARE LISTINGS: rows, m and arrivals, and the records that they give
 use mathlib.Core.Path.{_≡_}
-use mathlib.Core.Bool.{Bool, true, false}
+use mathlib.Core.Bool.{true, false}
 use mathlib.Core.Option.{Option, some}
 use mathlib.Core.List.{List, [], _∷_, map, foldl}
 use Prim.Native.Nat.{ℕ, zero, suc, _*_}
 use lib.ListN.{take, replicate}
 use Rattle.rules.specs.Answers.{isDone}
 use Rattle.rules.specs.Table.{Row, tableBytes}
-use Rattle.rules.specs.Admission.{Admitted, admit}
-use Rattle.rules.specs.State.{Task, State}
+use Rattle.rules.specs.Admission.{admit}
+use Rattle.rules.specs.State.{Task}
 use Rattle.rules.specs.Record.{Record}
 use Rattle.rules.specs.Calls.{stepAnswer}
 use Rattle.rules.specs.Run.{Call, arriveCall, stepCall, Run, perform, runOf}
@@ -68,6 +68,10 @@ scaleIn rows m = admit (tableBytes rows) m .state .scale
 unfoldable pub sharesIn : List Row → ℕ → List ℕ
 sharesIn rows m = map (λ (t : Task). t.share) (admit (tableBytes rows) m .state .tasks)
 
+-- the task set of document 001, Table 1
+abbrev pub tableOne : List Row
+tableOne = row 7 3 7 ∷ row 16 1 16 ∷ row 19 5 19 ∷ row 5 4 5 ∷ row 26 2 26 ∷ row 26 15 26 ∷ row 29 20 29 ∷ row 17 14 17 ∷ []
+
 abbrev pub tableP1 : List Row
 tableP1 = row 4 3 4 ∷ row 6 4 6 ∷ row 3 1 3 ∷ row 4 1 4 ∷ []
 
@@ -121,3 +125,11 @@ pub record Listings : Type 0 where
   pub full-share : listed (row 6 3 6 ∷ row 6 3 6 ∷ row 6 6 6 ∷ []) 2 (arrives 0 1 ∷ arrives 0 2 ∷ arrives 6 1 ∷ arrives 6 2 ∷ arrives 8 3 ∷ until 12 ∷ [])
       ≡ line 0 18 (1 ∷ 2 ∷ []) ∷ line 18 36 (0 ∷ 0 ∷ []) ∷ line 36 48 (1 ∷ 2 ∷ [])
       ∷ line 48 54 (3 ∷ 2 ∷ []) ∷ line 54 60 (3 ∷ 1 ∷ []) ∷ line 60 72 (3 ∷ 0 ∷ []) ∷ []
+  -- "to the next event or the horizon, whichever is first", with nobody awake too
+  pub idle : listing (row 4 2 4 ∷ []) 1 (towards 1 ∷ towards 5 ∷ towards 5 ∷ []) ≡ line 0 4 (0 ∷ []) ∷ line 4 16 (0 ∷ []) ∷ line 16 20 (0 ∷ []) ∷ []
+  -- Table 1 on four processors: C events that displace, B events with more than one waiting, falling shares that are not the row order
+  pub table-one : listing tableOne 4 (arriveCall 1 ∷ arriveCall 2 ∷ arriveCall 3 ∷ arriveCall 4 ∷ arriveCall 5 ∷ arriveCall 6 ∷ arriveCall 7 ∷ arriveCall 8
+      ∷ towards 5 ∷ towards 5 ∷ towards 5 ∷ towards 5 ∷ towards 5 ∷ towards 5 ∷ towards 5 ∷ towards 5 ∷ towards 5 ∷ towards 5 ∷ [])
+      ≡ line 0 194833600 (8 ∷ 4 ∷ 7 ∷ 6 ∷ []) ∷ line 194833600 235144000 (8 ∷ 4 ∷ 7 ∷ 1 ∷ []) ∷ line 235144000 272767040 (8 ∷ 4 ∷ 3 ∷ 1 ∷ [])
+      ∷ line 272767040 280789600 (8 ∷ 5 ∷ 3 ∷ 1 ∷ []) ∷ line 280789600 298994640 (2 ∷ 5 ∷ 3 ∷ 1 ∷ []) ∷ line 298994640 300868040 (2 ∷ 6 ∷ 3 ∷ 1 ∷ [])
+      ∷ line 300868040 302099525 (2 ∷ 0 ∷ 3 ∷ 1 ∷ []) ∷ line 302099525 324870000 (0 ∷ 0 ∷ 3 ∷ 1 ∷ []) ∷ line 324870000 340958800 (0 ∷ 0 ∷ 0 ∷ 1 ∷ []) ∷ []
