@@ -11,6 +11,7 @@ use lib.Seq.{drop-cons, drop-length}
 use Rattle.ground.specs.Tests.{if_then_else_}
 use Rattle.ground.proofs.Tests.{ltb-says, is-true, is-false}
 use Rattle.plane.specs.declared.State.{State}
+use Rattle.calls.specs.declared.Admitted.{Admitted}
 use Rattle.calls.specs.declared.Arrived.{Arrived}
 use Rattle.calls.specs.declared.Stepped.{Stepped}
 use Rattle.calls.specs.Arrive.{arriveOf}
@@ -59,3 +60,7 @@ pub run-left : (s : State) (horizon : ℕ) (out : List ℕ) (r : Lines) (out′ 
 run-left s horizon out r out′ R d =
     let m = R .moves (done-is (r .answer) d) in
     omega (arith, m .0, m .1, ap (λ (z : ℕ). horizon * z) (m .2))
+
+-- after calls on an admitted table
+pub lines-end : (n horizon r : ℕ) (list : List ℕ) (s : State) (a a′ : Admitted) → s ≡ madeAll n (a .state) list → a ≡ a′ → EndsAt horizon s r → EndsAt horizon (madeAll n (a′ .state) list) r
+lines-end n horizon r list s a a′ e f E = subst (λ (x : State). EndsAt horizon x r) (e ∙ ap (λ (x : Admitted). madeAll n (x .state) list) f) E

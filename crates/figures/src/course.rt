@@ -3,7 +3,6 @@ ghost use mathlib.Core.Path.{_≡_};
 ghost use Prim.Native.Nat.{_*_, _≤_};
 ghost use lib.ListN.{length};
 use crate::numbers::at_most;
-use crate::numbers::count;
 use crate::numbers::plus;
 use plane::State;
 
@@ -16,105 +15,109 @@ pub(crate) struct Plan {
     pub stepwise: bool,
 }
 
-// gaps: records that do not follow the last one or do not move time; twice: a task in two slots of a record, or no task of
-// the table; compared and differed: jobs whose running time is known by demand 3; then arrivals, by their answer.
-pub(crate) struct Tally {
-    pub records: u64,
-    pub sum: u64,
-    pub at: u64,
-    pub gaps: u64,
-    pub twice: u64,
-    pub compared: u64,
-    pub differed: u64,
-    pub taken: u64,
-    pub soon: u64,
-    pub other: u64,
-}
+// THE BOOK of a course, 512 numbers, first those that its line has: records and their checksum; arrivals taken, refused by 9,
+// refused else; jobs whose running time is known by demand 3, and those that differ; records that do not follow the last one
+// or do not move time; tasks in two slots of a record, or of no row.
+const RECORDS: usize = 0;
 
-// Where a course is, at or on its way to a tick; more: the last part was not refused.
-struct Course {
-    state: State,
-    tally: Tally,
-    tick: u64,
-    draw: u64,
-    more: bool,
-}
+const SUM: usize = 1;
 
-// The number at a place, or 0 where there is none.
-fn at(xs: &[u64], i: usize) -> u64 {
-    if i < xs.len() {
-        return xs[i];
+const TAKEN: usize = 2;
+
+const SOON: usize = 3;
+
+const ELSE: usize = 4;
+
+const COMPARED: usize = 5;
+
+const DIFFER: usize = 6;
+
+const GAPS: usize = 7;
+
+const TWICE: usize = 8;
+// The end of the last record, the tick of the horizon, the last pseudo-random number.
+const END: usize = 9;
+
+const TICK: usize = 10;
+
+const DRAW: usize = 11;
+// By row: how long the job has run, the tick of its arrival plus 1 or 0, the number of the last record that shows it.
+const RAN: usize = 128;
+
+const SINCE: usize = 256;
+
+const SEEN: usize = 384;
+
+// Lent once, an array shows its length to the proof.
+fn lend(_book: &[u64]) {}
+
+fn at(book: &[u64; 512], i: usize) -> u64 {
+    if i < 512 {
+        return book[i];
     }
     0
 }
 
-// A number at a place, if there is such a place.
-fn put(xs: &mut [u64], i: usize, x: u64) {
-    if i < xs.len() {
-        xs[i] = x;
+fn put(book: &mut [u64; 512], i: usize, x: u64) {
+    lend(book);
+    if i < 512 {
+        book[i] = x;
     }
 }
 
-// NUMBERS
+fn add(book: &mut [u64; 512], i: usize, x: u64) {
+    put(book, i, plus(at(book, i), x));
+}
 
-// The product of two numbers below 2^32, and 0 for others.
-fn times(a: u64, b: u64) -> u64 {
-    if 4294967295 < a {
-        return 0;
+// One more, where something is so.
+fn tick(book: &mut [u64; 512], i: usize, so: bool) {
+    if so {
+        add(book, i, 1);
     }
-    if 4294967295 < b {
-        return 0;
-    }
-    a * b
 }
 
 // The next pseudo-random number.
-fn next(draw: u64) -> u64 {
-    (draw % 2147483648 * 1103515245 + 12345) % 2147483648
+fn draw(book: &mut [u64; 512]) -> u64 {
+    let x = (at(book, DRAW) % 2147483648 * 1103515245 + 12345) % 2147483648;
+    put(book, DRAW, x);
+    x
 }
 
 // One of n numbers from 0 on, by a pseudo-random one.
-fn pick(draw: u64, n: u64) -> u64 {
+fn pick(x: u64, n: u64) -> u64 {
     if n == 0 {
         return 0;
     }
-    draw / 65536 % n
-}
-
-// A checksum with one byte more.
-fn mix(sum: u64, b: u8) -> u64 {
-    (sum % 4294967291 * 1000003 + b as u64 + 1) % 4294967291
+    x / 65536 % n
 }
 
 // RECORDS
 
-// A task stands in a slot for so many sub-ticks; 1 where that is a fault. number: the record's.
-fn seat(ran: &mut [u64], seen: &mut [u64], task: u64, len: u64, number: u64) -> u64 {
+// A task stands in a slot for so many sub-ticks.
+fn seat(book: &mut [u64; 512], task: u64, len: u64) {
     if task == 0 {
-        return 0;
+        return;
     }
     if 128 < task {
-        return 1;
+        add(book, TWICE, 1);
+        return;
     }
     let i = (task - 1) as usize;
-    put(ran, i, plus(at(ran, i), len));
-    let again = at(seen, i) == number;
-    put(seen, i, number);
-    count(0, again)
+    let number = at(book, RECORDS);
+    tick(book, TWICE, at(book, SEEN + i) == number);
+    put(book, SEEN + i, number);
+    add(book, RAN + i, len);
 }
 
-// The sixteen slots of a record; the number of faults.
-fn seats(bytes: &[u8], ran: &mut [u64], seen: &mut [u64], len: u64, number: u64) -> u64
+// The sixteen slots of a record.
+fn seats(book: &mut [u64; 512], bytes: &[u8], len: u64)
     requires whole { ⌜ length (now bytes) ≡ 48 ⌝ }
 {
-    let mut faults: u64 = 0;
     let mut k: usize = 0;
     while k < 16 {
-        let task = ground::get(bytes, 16 + 2 * k, 2);
-        faults = plus(faults, seat(ran, seen, task, len, number));
+        seat(book, ground::get(bytes, 16 + 2 * k, 2), len);
         k += 1;
     }
-    faults
 }
 
 // The length of a record; 0 where it does not move time.
@@ -125,22 +128,25 @@ fn length_of(from: u64, to: u64) -> u64 {
     0
 }
 
-// The tally with a record.
-fn record(t: Tally, bytes: &[u8], ran: &mut [u64], seen: &mut [u64]) -> Tally
+fn record(book: &mut [u64; 512], bytes: &[u8])
     requires whole { ⌜ length (now bytes) ≡ 48 ⌝ }
 {
     let from = ground::get(bytes, 0, 8);
     let to = ground::get(bytes, 8, 8);
     let len = length_of(from, to);
-    let mut k = t;
-    k.records = plus(t.records, 1);
-    k.gaps = count(count(t.gaps, from != t.at), len == 0);
-    k.twice = plus(t.twice, seats(bytes, ran, seen, len, k.records));
-    k.at = to;
-    k
+    add(book, RECORDS, 1);
+    tick(book, GAPS, from != at(book, END));
+    tick(book, GAPS, len == 0);
+    put(book, END, to);
+    seats(book, bytes, len);
 }
 
-// The checksum with these bytes.
+// A checksum with one byte more.
+fn mix(sum: u64, b: u8) -> u64 {
+    (sum % 4294967291 * 1000003 + b as u64 + 1) % 4294967291
+}
+
+// A checksum with these bytes.
 fn digest(bytes: &[u8], start: u64) -> u64 {
     let mut sum = start;
     let mut i: usize = 0;
@@ -151,22 +157,19 @@ fn digest(bytes: &[u8], start: u64) -> u64 {
     sum
 }
 
-// The tally with n records.
-fn records(t: Tally, room: &[u8], n: usize, ran: &mut [u64], seen: &mut [u64]) -> Tally
+// The first n records of the room.
+fn records(book: &mut [u64; 512], room: &[u8], n: usize)
     requires held { ⌜ (n ≤ 64) × (48 * n ≤ length (now room)) ⌝ }
 {
-    let start: usize = 0;
-    let all = 48 * n;
-    let mut k = t;
-    k.sum = digest(&room[start..all], t.sum);
     let mut i: usize = 0;
     while i < n {
         let from = 48 * i;
         let to = from + 48;
-        k = record(k, &room[from..to], ran, seen);
+        let one = &room[from..to];
+        put(book, SUM, digest(one, at(book, SUM)));
+        record(book, one);
         i += 1;
     }
-    k
 }
 
 // STEPS
@@ -200,226 +203,179 @@ fn go(s: State, horizon: u64, stepwise: bool, room: &mut [u8]) -> Went {
     }
 }
 
-// The course after such a call.
-fn part(c: Course, stepwise: bool, ran: &mut [u64], seen: &mut [u64]) -> Course {
+// Such a call, and its records.
+fn part(s: State, stepwise: bool, book: &mut [u64; 512]) -> Went {
     let mut room = [0u8; 3072];
-    let s = c.state;
-    let w = go(s, c.tick, stepwise, &mut room);
-    let state = w.state;
-    let n = at_most(w.records, 64);
-    let t = c.tally;
-    let tally = records(t, &room, n, ran, seen);
-    let mut k = c;
-    k.state = state;
-    k.tally = tally;
-    k.more = w.more;
-    k
+    let w = go(s, at(book, TICK), stepwise, &mut room);
+    records(book, &room, at_most(w.records, 64));
+    w
 }
 
-// To the tick, in at most 100,000 parts.
-fn reach(c: Course, stepwise: bool, ran: &mut [u64], seen: &mut [u64]) -> Course {
-    let mut k = c;
+// To the horizon, in at most 100,000 parts.
+fn reach(s: State, stepwise: bool, book: &mut [u64; 512]) -> State {
+    let mut state = s;
     let mut left: u64 = 100000;
     while 0 < left {
-        k = part(k, stepwise, ran, seen);
-        if !k.more {
-            return k;
-        }
         left -= 1;
+        let w = part(state, stepwise, book);
+        state = w.state;
+        if !w.more {
+            return state;
+        }
     }
-    k
+    state
 }
 
 // ARRIVALS
 
-// Is arrive called? With chance 0 as soon as the period is over; else by the draw, whether it is or not. `came` is the tick
-// of the last arrival plus 1, or 0.
-fn called(draw: u64, chance: u64, came: u64, period: u64, tick: u64) -> bool {
+// Is arrive called? With chance 0 as soon as the period is over; else by chance, whether it is or not.
+fn called(chance: u64, x: u64, came: u64, period: u64, present: u64) -> bool {
     if 0 < chance {
-        return pick(draw, chance) == 0;
+        return pick(x, chance) == 0;
     }
     if came == 0 {
         return true;
     }
-    plus(came, period) <= plus(tick, 1)
+    plus(came, period) <= plus(present, 1)
 }
 
-// Neither 0 nor 9.
-fn is_other(number: u32) -> bool {
-    if number == 0 {
-        return false;
-    }
-    number != 9
-}
-
-// Where an arrival was taken, a job of row i begins, of which nothing has run.
-fn begin(number: u32, i: usize, tick: u64, ran: &mut [u64], since: &mut [u64]) {
-    if number != 0 {
+// The answer to an arrival of row i. A job that begins has run nothing.
+fn answered(book: &mut [u64; 512], i: usize, number: u32)
+    requires few { ⌜ i ≤ 128 ⌝ }
+{
+    if number == 9 {
+        add(book, SOON, 1);
         return;
     }
-    put(ran, i, 0);
-    put(since, i, plus(tick, 1));
-}
-
-// Row i arrives, and its answer is counted.
-fn arrive(c: Course, i: usize, ran: &mut [u64], since: &mut [u64]) -> Course
-    requires few { ⌜ i ≤ 128 ⌝ }
-{
-    let state = c.state;
-    let a = calls::arrive(state, (i + 1) as u64);
-    let answer = a.answer;
-    let after = a.state;
-    let number = rules::number(answer);
-    begin(number, i, c.tick, ran, since);
-    let mut t = c.tally;
-    t.taken = count(t.taken, number == 0);
-    t.soon = count(t.soon, number == 9);
-    t.other = count(t.other, is_other(number));
-    let mut k = c;
-    k.state = after;
-    k.tally = t;
-    k
-}
-
-// Row i arrives, if it is called.
-fn perhaps(
-    c: Course,
-    i: usize,
-    period: u32,
-    chance: u64,
-    ran: &mut [u64],
-    since: &mut [u64],
-) -> Course
-    requires few { ⌜ i ≤ 128 ⌝ }
-{
-    if called(c.draw, chance, at(since, i), period as u64, c.tick) {
-        return arrive(c, i, ran, since);
+    if number != 0 {
+        add(book, ELSE, 1);
+        return;
     }
-    c
+    add(book, TAKEN, 1);
+    put(book, RAN + i, 0);
+    put(book, SINCE + i, plus(at(book, TICK), 1));
+}
+
+// Perhaps row i arrives.
+fn arrive(s: State, i: usize, period: u32, chance: u64, book: &mut [u64; 512]) -> State
+    requires few { ⌜ i ≤ 128 ⌝ }
+{
+    let x = draw(book);
+    if !called(
+        chance,
+        x,
+        at(book, SINCE + i),
+        period as u64,
+        at(book, TICK),
+    ) {
+        return s;
+    }
+    let a = calls::arrive(s, (i + 1) as u64);
+    let answer = a.answer;
+    answered(book, i, rules::number(answer));
+    a.state
 }
 
 // Perhaps each row arrives.
-fn arrivals(c: Course, chance: u64, ran: &mut [u64], since: &mut [u64]) -> Course {
-    let state = c.state;
-    let held = state.table;
+fn arrivals(s: State, chance: u64, book: &mut [u64; 512]) -> State {
+    let held = s.table;
     let period = held.period;
     let n = at_most(held.count, 128);
-    let mut k = c;
+    let mut state = s;
     let mut i: usize = 0;
     while i < n {
-        k.draw = next(k.draw);
-        k = perhaps(k, i, period[i], chance, ran, since);
+        state = arrive(state, i, period[i], chance, book);
         i += 1;
     }
-    k
+    state
 }
 
 // DEMAND 3
 
-// The tally with a comparison.
-fn compared(t: Tally, ran: u64, right: u64) -> Tally {
-    let mut k = t;
-    k.compared = plus(t.compared, 1);
-    k.differed = count(t.differed, ran != right);
-    k
+// The product of two numbers below 2^32, and 0 for others.
+fn times(a: u64, b: u64) -> u64 {
+    if 4294967295 < a {
+        return 0;
+    }
+    if 4294967295 < b {
+        return 0;
+    }
+    a * b
 }
 
-// The tally with a row's job, if it has one. At q ticks and later it has run e ticks. Before that, at a plane's end, it has
-// run e times the ticks gone, divided by q. `came` is the tick of its arrival plus 1, or 0.
-fn judge(
-    t: Tally,
-    e: u32,
-    q: u32,
-    scale: u64,
-    going: bool,
-    tick: u64,
-    came: u64,
-    ran: u64,
-) -> Tally {
+// What a job of e in q has run after so many ticks: e ticks after q ticks and later; before that, at a plane's end, e times
+// the ticks gone, divided by q.
+fn right(e: u64, q: u64, scale: u64, gone: u64) -> u64 {
+    if q <= gone {
+        return times(e, scale);
+    }
+    times(times(e, scale / q), gone)
+}
+
+// The job of row i, if it has one and what it has run is known.
+fn judge(book: &mut [u64; 512], i: usize, e: u64, q: u64, scale: u64, going: bool)
+    requires few { ⌜ i ≤ 128 ⌝ }
+{
+    let came = at(book, SINCE + i);
     if came == 0 {
-        return t;
+        return;
     }
-    if tick < came {
-        return t;
+    let present = at(book, TICK);
+    if present < came {
+        return;
     }
-    let gone = tick - came + 1;
-    if q as u64 <= gone {
-        return compared(t, ran, times(e as u64, scale));
-    }
+    let gone = present - came + 1;
     if going {
-        return t;
+        if gone < q {
+            return;
+        }
     }
-    compared(t, ran, times(times(e as u64, scale / q as u64), gone))
+    add(book, COMPARED, 1);
+    tick(book, DIFFER, at(book, RAN + i) != right(e, q, scale, gone));
 }
 
 // The jobs of all rows.
-fn judged(c: Course, ran: &[u64], since: &[u64]) -> Tally {
-    let state = c.state;
-    let held = state.table;
+fn judge_all(s: State, book: &mut [u64; 512]) {
+    let held = s.table;
     let period = held.period;
     let exec = held.exec;
     let deadline = held.deadline;
     let n = at_most(held.count, 128);
-    let mut t = c.tally;
     let mut i: usize = 0;
     while i < n {
         let q = table::shorter(period[i], deadline[i]);
-        t = judge(
-            t,
-            exec[i],
-            q,
+        judge(
+            book,
+            i,
+            table::wide(exec[i]),
+            table::wide(q),
             held.scale,
-            state.going,
-            c.tick,
-            at(since, i),
-            at(ran, i),
+            s.going,
         );
         i += 1;
     }
-    t
 }
 
 // COURSES
 
-// On the way to the next horizon.
-fn onward(c: Course, stride: u64) -> Course {
-    let mut k = c;
-    k.draw = next(k.draw);
-    k.tick = plus(k.tick, plus(pick(k.draw, stride), 1));
-    k
+// The next horizon.
+fn onward(book: &mut [u64; 512], stride: u64) {
+    let x = draw(book);
+    add(book, TICK, plus(pick(x, stride), 1));
 }
 
-// All stops, from a state at instant 0: arrivals, then steps to a horizon, then the comparison there.
-pub(crate) fn tallied(first: State, p: Plan) -> Tally {
-    let mut ran = [0u64; 128];
-    let mut since = [0u64; 128];
-    let mut seen = [0u64; 128];
-    let none = Tally {
-        records: 0,
-        sum: 0,
-        at: 0,
-        gaps: 0,
-        twice: 0,
-        compared: 0,
-        differed: 0,
-        taken: 0,
-        soon: 0,
-        other: 0,
-    };
-    let mut k = Course {
-        state: first,
-        tally: none,
-        tick: 0,
-        draw: 1,
-        more: true,
-    };
+// The book of a course, from a state at instant 0: arrivals, then steps to a horizon, then the comparison there, and again.
+pub(crate) fn course(first: State, p: Plan) -> [u64; 512] {
+    let mut book = [0u64; 512];
+    put(&mut book, DRAW, 1);
+    let mut state = first;
     let mut left = p.stops;
     while 0 < left {
         left -= 1;
-        let started = arrivals(k, p.chance, &mut ran, &mut since);
-        k = reach(onward(started, p.stride), p.stepwise, &mut ran, &mut seen);
-        let t = judged(k, &ran, &since);
-        k.tally = t;
+        let started = arrivals(state, p.chance, &mut book);
+        onward(&mut book, p.stride);
+        state = reach(started, p.stepwise, &mut book);
+        judge_all(state, &mut book);
     }
-    k.tally
+    book
 }

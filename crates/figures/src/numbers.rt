@@ -12,16 +12,6 @@ pub(crate) fn plus(a: u64, b: u64) -> u64
     18446744073709551615
 }
 
-// One more, where something is so.
-pub(crate) fn count(n: u64, so: bool) -> u64
-    ensures grows { λ r. ⌜ n ≤ r ⌝ }
-{
-    if so {
-        return plus(n, 1);
-    }
-    n
-}
-
 // The lesser of the two.
 pub(crate) fn at_most(x: usize, most: usize) -> usize
     ensures within { λ r. ⌜ (r ≤ x) × (r ≤ most) ⌝ }

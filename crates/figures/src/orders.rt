@@ -11,307 +11,226 @@
 //   set AT WIDTH VALUE   a number into the image of the state
 //   ask: NAME            what an arrival of task 1 and a step to tick 3 answer; then back
 //   course M C S N B: NAME    a course on M processors: chance, stride, stops, by step where B is 1
+// The calls are those under C names, on the image of the state (its layout is in include/robinrow.h).
 ghost use mathlib.Core.Path.{_≡_};
-ghost use Prim.Native.Nat.{_+_, _≤_, _<_};
+ghost use Prim.Native.Nat.{_+_, _≤_};
 ghost use lib.ListN.{length};
 ghost use Rattle.ground.specs.Bytes.{le, pasted};
-ghost use Rattle.image.specs.Image.{stateAt, imageOf};
 use crate::course;
 use crate::numbers::at_most;
-use crate::numbers::count;
 use crate::say;
-use calls::Admitted;
-use calls::Stepped;
 use course::Plan;
-use course::Tally;
-use plane::State;
-use rules::Answer;
 
-// What the orders work on: the first `len` bytes of a table, the state, and a state that was kept.
-struct Desk {
-    state: State,
-    kept: State,
-    table: [u8; 1548],
-    len: usize,
-}
+// BYTES
 
-fn with_state(d: Desk, s: State) -> Desk {
-    let mut k = d;
-    k.state = s;
-    k
-}
-
-fn with_length(d: Desk, len: usize) -> Desk {
-    let mut k = d;
-    k.len = len;
-    k
-}
-
-fn with_kept(d: Desk) -> Desk {
-    let s = d.state;
-    let mut k = d;
-    k.kept = s;
-    k
-}
-
-fn back(d: Desk) -> Desk {
-    let s = d.kept;
-    with_state(d, s)
-}
-
-// TABLES
-
-// A row from the place on, if there is room for it; the next place.
-fn put_row(table: &mut [u8], at: usize, p: u64, e: u64, d: u64) -> usize {
-    if table.len() < at {
-        return at;
+// The number of so many bytes at a place, or 0 where there is no such place.
+fn number(bytes: &[u8], at: usize, width: usize) -> u64 {
+    if bytes.len() < at {
+        return 0;
     }
-    if table.len() - at < 12 {
-        return at;
+    if 8 < width {
+        return 0;
     }
-    ground::put(table, at, p, 4);
-    ground::put(table, at + 4, e, 4);
-    ground::put(table, at + 8, d, 4);
-    at + 12
-}
-
-// n rows more.
-fn with_rows(d: Desk, n: u64, p: u64, e: u64, deadline: u64) -> Desk {
-    let mut table = d.table;
-    let mut len = d.len;
-    let mut left = n;
-    while 0 < left {
-        len = put_row(&mut table, len, p, e, deadline);
-        left -= 1;
+    if bytes.len() - at < width {
+        return 0;
     }
-    let mut k = d;
-    k.table = table;
-    k.len = len;
-    k
+    ground::get(bytes, at, width)
 }
 
-// Admission of a table's first bytes, or of all where there are not so many.
-fn admit_first(table: &[u8], len: usize, m: usize) -> Admitted {
-    let from: usize = 0;
-    if len <= table.len() {
-        return calls::admit(&table[from..len], m);
+// A number of so many bytes at a place, where there is such a place.
+fn set(bytes: &mut [u8], at: usize, width: usize, x: u64)
+    ensures is { λ _. ⌜ (at + width ≤ length (now (bytes .entry)) → now (bytes .exit) ≡ pasted (now (bytes .entry)) at (le width x)) ⌝ }
+{
+    if bytes.len() < at {
+        return;
     }
-    calls::admit(table, m)
-}
-
-// Admission of the table.
-fn admitted(d: Desk, m: usize) -> Admitted {
-    let table = d.table;
-    admit_first(&table, d.len, m)
-}
-
-// ANSWERS
-
-// What an arrival of task 1 and a step to tick 3 answer.
-fn ask(s: State) {
-    let a = calls::arrive(s, 1);
-    let arrived = a.answer;
-    let mut room = [0u8; 48];
-    let r = calls::step(s, 3, &mut room);
-    let stepped = r.answer;
-    say::answer(b"arrive ", arrived);
-    say::answer(b" step ", stepped);
-}
-
-fn ask_named(d: Desk, name: &[u8]) -> Desk {
-    let s = d.state;
-    say::words(name);
-    say::words(b": ");
-    ask(s);
-    say::words(b"\n");
-    back(d)
-}
-
-// The line of an admission: number and row, then the scale or what the blank state answers.
-fn admit_line(a: Admitted, m: usize, name: &[u8]) {
-    let answer = a.answer;
-    let state = a.state;
-    let held = state.table;
-    say::words(b"admit ");
-    say::words(name);
-    say::with(b", m ", m as u64);
-    say::answer(b": ", answer);
-    say::with(b" row ", a.row as u64);
-    if table::is_done(answer) {
-        say::with(b" scale ", held.scale);
-    } else {
-        say::words(b", then ");
-        ask(state);
+    if bytes.len() - at < width {
+        return;
     }
-    say::words(b"\n");
+    ground::put(bytes, at, x, width);
 }
 
-fn admit(d: Desk, m: usize, name: &[u8]) -> Desk {
-    let a = admitted(d, m);
-    let state = a.state;
-    if 0 < name.len() {
-        admit_line(a, m, name);
+// All bytes into others, where they have room.
+fn copy(from: &[u8], to: &mut [u8]) {
+    if from.len() <= to.len() {
+        bytes::copy(from, to);
     }
-    with_state(d, state)
 }
 
-// An arrival and its line.
-fn arrive(d: Desk, task: u64, name: &[u8]) -> Desk {
-    let s = d.state;
-    let a = calls::arrive(s, task);
-    let answer = a.answer;
-    let state = a.state;
-    let present = state.now;
-    if 0 < name.len() {
-        say::words(name);
-        say::words(b": ");
-    }
-    say::with(b"arrive ", task);
-    say::answer(b": ", answer);
-    if 0 < name.len() {
-        say::with(b", present ", present.0);
-    }
-    say::words(b"\n");
-    with_state(d, state)
-}
-
-// How many of the bytes are no longer 255.
-fn changed(bytes: &[u8]) -> u64 {
+// How many of the bytes from a place up to another are no longer 255.
+fn changed(bytes: &[u8], from: usize, to: usize) -> u64 {
     let mut n: u64 = 0;
-    let mut i: usize = 0;
-    while i < bytes.len() {
-        n = count(n, bytes[i] != 255);
+    let mut i = from;
+    while i < to {
+        if number(bytes, i, 1) != 255 {
+            n = crate::numbers::plus(n, 1);
+        }
         i += 1;
     }
     n
 }
 
+// TABLES
+
+// n rows after the first bytes, as long as there is room for 12 bytes; how many bytes there are then.
+fn rows(table: &mut [u8], len: usize, n: u64, p: u64, e: u64, d: u64) -> usize {
+    let mut left = n;
+    let mut at = len;
+    while 0 < left {
+        left -= 1;
+        at = row(table, at, p, e, d);
+    }
+    at
+}
+
+fn row(table: &mut [u8], at: usize, p: u64, e: u64, d: u64) -> usize {
+    if 1536 < at {
+        return at;
+    }
+    set(table, at, 4, p);
+    set(table, at + 4, 4, e);
+    set(table, at + 8, 4, d);
+    at + 12
+}
+
+// ANSWERS
+
+// What an arrival of task 1 and a step to tick 3 answer; the step is taken.
+fn asked(state: &mut [u8]) -> [u64; 2] {
+    let mut other = [0u8; 6745];
+    copy(state, &mut other);
+    let arrived = robinrow_c::robinrow_arrive(&mut other, 1);
+    let mut room = [0u8; 48];
+    let stepped = robinrow_c::robinrow_step(state, 3, &mut room);
+    [arrived as u64, stepped as u64]
+}
+
+fn ask(state: &mut [u8], kept: &[u8], name: &[u8]) {
+    let n = asked(state);
+    say::form(b"@: arrive # step #\n", name, &n);
+    copy(kept, state);
+}
+
+// Admission of the table's first bytes: number, and 256 times the row.
+fn admitted(state: &mut [u8], table: &[u8], len: usize, m: usize) -> u64 {
+    let from: usize = 0;
+    if len <= table.len() {
+        return robinrow_c::robinrow_admit(&table[from..len], m, state);
+    }
+    robinrow_c::robinrow_admit(table, m, state)
+}
+
+// The line of an admission: number and row, then the scale or what the blank state answers.
+fn admit_line(state: &mut [u8], m: usize, r: u64, name: &[u8]) {
+    if r == 0 {
+        let n = [m as u64, number(state, 6448, 8)];
+        say::form(b"admit @, m #: 0 row 0 scale #\n", name, &n);
+        return;
+    }
+    let blank = asked(state);
+    let n = [m as u64, r % 256, r / 256, blank[0], blank[1]];
+    say::form(b"admit @, m #: # row #, then arrive # step #\n", name, &n);
+}
+
+fn admit(state: &mut [u8], table: &[u8], len: usize, m: usize, name: &[u8]) {
+    let r = admitted(state, table, len, m);
+    if 0 < name.len() {
+        admit_line(state, m, r, name);
+    }
+}
+
+fn arrive(state: &mut [u8], task: u64, name: &[u8]) {
+    let r = robinrow_c::robinrow_arrive(state, task);
+    let n = [task, r as u64, number(state, 6456, 8)];
+    if name.len() == 0 {
+        say::form(b"arrive #: #\n", name, &n);
+        return;
+    }
+    say::form(b"@: arrive #: #, present #\n", name, &n);
+}
+
 // A step into the first bytes of a room.
-fn step_into(s: State, horizon: u64, room: &mut [u8], len: usize) -> Stepped {
+fn stepped(state: &mut [u8], horizon: u64, room: &mut [u8], len: usize) -> u32 {
     let from: usize = 0;
     if len <= room.len() {
-        return calls::step(s, horizon, &mut room[from..len]);
+        return robinrow_c::robinrow_step(state, horizon, &mut room[from..len]);
     }
-    calls::step(s, horizon, room)
+    robinrow_c::robinrow_step(state, horizon, room)
 }
 
 // The line of a step without a name: its answer, and its record.
-fn record_line(horizon: u64, answer: Answer, room: &[u8; 60], m: usize) {
-    say::with(b"step ", horizon);
-    say::answer(b": ", answer);
-    if table::is_done(answer) {
+fn record_line(horizon: u64, r: u64, room: &[u8; 60], m: usize) {
+    let n = [horizon, r];
+    if r == 0 {
         let mut out = [0u8; 138];
         let k = text::put_records(&mut out, room, 1, at_most(m, 16));
-        say::words(b", ");
-        say::words(&out[..k]);
-    } else {
-        say::words(b"\n");
+        say::form(b"step #: #, @", &out[..k], &n);
+        return;
     }
+    say::form(b"step #: #\n", b"", &n);
 }
 
-// The line of a named step: how many of the first 48 bytes and of the others it changed.
-fn step_line(name: &[u8], horizon: u64, len: u64, answer: Answer, room: &[u8], present: u64)
-    requires held { ⌜ 48 ≤ length (now room) ⌝ }
-{
-    let from: usize = 0;
-    let to: usize = 48;
-    say::words(name);
-    say::with(b": step ", horizon);
-    say::with(b" room ", len);
-    say::answer(b": ", answer);
-    say::with(b", changed ", changed(&room[from..to]));
-    say::with(b" and ", changed(&room[to..]));
-    say::with(b", present ", present);
-    say::words(b"\n");
-}
-
-// A step into so many of 60 bytes 255.
-fn step(d: Desk, horizon: u64, len: u64, name: &[u8]) -> Desk {
-    let s = d.state;
+// A step into so many of 60 bytes 255; with a name, how many of the first 48 bytes and of the others it changed.
+fn step(state: &mut [u8], horizon: u64, len: u64, name: &[u8]) {
     let mut room = [255u8; 60];
-    let r = step_into(s, horizon, &mut room, len as usize);
-    let answer = r.answer;
-    let state = r.state;
-    let present = state.now;
-    let held = state.table;
-    if 0 < name.len() {
-        step_line(name, horizon, len, answer, &room, present.0);
-    } else {
-        record_line(horizon, answer, &room, held.m);
+    let r = stepped(state, horizon, &mut room, len as usize) as u64;
+    if name.len() == 0 {
+        record_line(horizon, r, &room, number(state, 6440, 8) as usize);
+        return;
     }
-    with_state(d, state)
+    let n = [
+        horizon,
+        len,
+        r,
+        changed(&room, 0, 48),
+        changed(&room, 48, 60),
+        number(state, 6456, 8),
+    ];
+    say::form(
+        b"@: step # room #: #, changed # and #, present #\n",
+        name,
+        &n,
+    );
 }
 
-// A run of at most 5,461 records, and its line.
-fn run(d: Desk, tick: u64) -> Desk {
-    let s = d.state;
+// A run of at most 5,461 records.
+fn run(state: &mut [u8], tick: u64) {
     let mut room = [0u8; 262144];
-    let r = calls::run(s, tick, &mut room);
-    let state = r.state;
-    let present = state.now;
-    say::with(b"run to ", tick);
-    say::with(b": records ", r.records as u64);
-    say::with(b", present ", present.0);
-    if state.going {
-        say::with(b", plane open to ", state.end);
-    } else {
-        say::words(b", plane closed");
+    let r = robinrow_c::robinrow_run(state, tick, &mut room);
+    let n = [
+        tick,
+        r / 256,
+        number(state, 6456, 8),
+        number(state, 6464, 8),
+    ];
+    if number(state, 6744, 1) == 1 {
+        say::form(
+            b"run to #: records #, present #, plane open to #\n",
+            b"",
+            &n,
+        );
+        return;
     }
-    say::words(b"\n");
-    with_state(d, state)
+    say::form(b"run to #: records #, present #, plane closed\n", b"", &n);
 }
 
-// The state with a number of so many bytes at a place of its image.
-fn damaged(s: State, at: usize, width: usize, x: u64) -> State
-    requires inside { ⌜ at + width ≤ 6745 ⌝ }
-    ensures is { λ r. ⌜ r ≡ stateAt (pasted (imageOf s) at (le width x)) ⌝ }
-{
-    let mut bytes = [0u8; 6745];
-    image::store(&mut bytes, s);
-    ground::put(&mut bytes, at, x, width);
-    image::load(&bytes)
-}
-
-// The same, where there is such a place.
-fn set(d: Desk, at: usize, width: usize, x: u64) -> Desk {
-    if 6745 < at {
-        return d;
+// A course from the state.
+fn course_from(state: &[u8], n: [u64; 6], name: &[u8]) {
+    if state.len() != 6745 {
+        return;
     }
-    if 6745 - at < width {
-        return d;
-    }
-    let s = d.state;
-    with_state(d, damaged(s, at, width, x))
-}
-
-// The line of a course.
-fn course_line(t: Tally, name: &[u8]) {
-    say::words(b"course ");
-    say::words(name);
-    say::with(b": records ", t.records);
-    say::with(b" sum ", t.sum);
-    say::with(b", arrivals ", t.taken);
-    say::with(b", refused 9 ", t.soon);
-    say::with(b", refused else ", t.other);
-    say::with(b", jobs compared ", t.compared);
-    say::with(b", differ ", t.differed);
-    say::with(b", gaps ", t.gaps);
-    say::with(b", twice ", t.twice);
-    say::words(b"\n");
-}
-
-// A course of the table.
-fn run_course(d: Desk, n: [u64; 6], name: &[u8]) -> Desk {
-    let a = admitted(d, n[1] as usize);
-    let first = a.state;
     let p = Plan {
         chance: n[2],
         stride: n[3],
         stops: n[4],
         stepwise: n[5] == 1,
     };
-    course_line(course::tallied(first, p), name);
-    d
+    let book = course::course(image::load(state), p);
+    say::form(
+        b"course @: records # sum #, arrivals #, refused 9 #, refused else #, jobs compared #, differ #, gaps #, twice #\n",
+        name,
+        &book,
+    );
 }
 
 // LINES
@@ -357,53 +276,55 @@ fn numbers_of(s: &[u8]) -> [u64; 6] {
     n
 }
 
-// The orders on the table and on the state.
-fn obey_state(d: Desk, word: &[u8], n: [u64; 6], name: &[u8]) -> Desk {
-    if check::same(word, b"keep") {
-        return with_kept(d);
-    }
-    if check::same(word, b"back") {
-        return back(d);
-    }
-    if check::same(word, b"set") {
-        return set(d, n[1] as usize, n[2] as usize, n[3]);
-    }
-    if check::same(word, b"ask") {
-        return ask_named(d, name);
-    }
-    if check::same(word, b"course") {
-        return run_course(d, n, name);
-    }
-    d
-}
-
-fn obey_call(d: Desk, word: &[u8], n: [u64; 6], name: &[u8]) -> Desk {
-    if check::same(word, b"admit") {
-        return admit(d, n[1] as usize, name);
-    }
-    if check::same(word, b"arrive") {
-        return arrive(d, n[1], name);
-    }
-    if check::same(word, b"step") {
-        return step(d, n[1], n[2], name);
-    }
-    if check::same(word, b"run") {
-        return run(d, n[1]);
-    }
-    obey_state(d, word, n, name)
-}
-
-fn obey(d: Desk, word: &[u8], n: [u64; 6], name: &[u8]) -> Desk {
+// Orders on the table; how many bytes it has then.
+fn obey_table(word: &[u8], n: [u64; 6], table: &mut [u8], len: usize) -> usize {
     if check::same(word, b"table") {
-        return with_rows(with_length(d, 0), n[1], n[2], n[3], n[4]);
+        return rows(table, 0, n[1], n[2], n[3], n[4]);
     }
     if check::same(word, b"rows") {
-        return with_rows(d, n[1], n[2], n[3], n[4]);
+        return rows(table, len, n[1], n[2], n[3], n[4]);
     }
     if check::same(word, b"length") {
-        return with_length(d, n[1] as usize);
+        return n[1] as usize;
     }
-    obey_call(d, word, n, name)
+    len
+}
+
+// Orders on the state and the state that was kept.
+fn obey_state(word: &[u8], n: [u64; 6], name: &[u8], state: &mut [u8], kept: &mut [u8]) {
+    if check::same(word, b"arrive") {
+        arrive(state, n[1], name);
+    }
+    if check::same(word, b"step") {
+        step(state, n[1], n[2], name);
+    }
+    if check::same(word, b"run") {
+        run(state, n[1]);
+    }
+    if check::same(word, b"keep") {
+        copy(state, kept);
+    }
+    if check::same(word, b"back") {
+        copy(kept, state);
+    }
+    if check::same(word, b"set") {
+        set(state, n[1] as usize, n[2] as usize, n[3]);
+    }
+    if check::same(word, b"ask") {
+        ask(state, kept, name);
+    }
+}
+
+// Orders that make a state of the table.
+fn obey_both(word: &[u8], n: [u64; 6], name: &[u8], state: &mut [u8], table: &[u8], len: usize) {
+    if check::same(word, b"admit") {
+        admit(state, table, len, n[1] as usize, name);
+        return;
+    }
+    if check::same(word, b"course") {
+        admitted(state, table, len, n[1] as usize);
+        course_from(state, n, name);
+    }
 }
 
 // Where the name begins: after the colon and a space.
@@ -417,33 +338,33 @@ fn name_at(colon: usize, end: usize) -> usize
     colon + 2
 }
 
-// A line: its word ends at the first space, its numbers at the colon.
-fn line(d: Desk, s: &[u8]) -> Desk {
+// A line: its word ends at the first space, its numbers at the colon; how many bytes the table has then.
+fn line(s: &[u8], state: &mut [u8], kept: &mut [u8], table: &mut [u8], len: usize) -> usize {
     let start: usize = 0;
     let end = s.len();
     let colon = bytes::scan::find(s, start, end, 58);
     let space = bytes::scan::find(s, start, colon, 32);
-    let name = name_at(colon, end);
+    let from = name_at(colon, end);
+    let word = &s[start..space];
+    let name = &s[from..];
     let n = numbers_of(&s[start..colon]);
-    obey(d, &s[start..space], n, &s[name..])
+    obey_state(word, n, name, state, kept);
+    obey_both(word, n, name, state, table, len);
+    obey_table(word, n, table, len)
 }
 
 // All lines.
 pub(crate) fn all(s: &[u8])
     requires short { ⌜ length (now s) ≤ 65536 ⌝ }
 {
-    let blank = calls::admit(s, 0);
-    let none = blank.state;
-    let mut d = Desk {
-        state: none,
-        kept: none,
-        table: [0; 1548],
-        len: 0,
-    };
+    let mut state = [0u8; 6745];
+    let mut kept = [0u8; 6745];
+    let mut table = [0u8; 1548];
+    let mut len: usize = 0;
     let mut at: usize = 0;
     while at < s.len() {
         let end = bytes::scan::find(s, at, s.len(), 10);
-        d = line(d, &s[at..end]);
+        len = line(&s[at..end], &mut state, &mut kept, &mut table, len);
         at = end + 1;
     }
 }

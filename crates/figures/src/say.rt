@@ -1,18 +1,37 @@
-// What the program writes, a piece at a time.
+// What the program writes.
 use libc::STDOUT_FILENO;
-use rules::Answer;
 
 pub(crate) fn words(w: &[u8]) {
     io::write_all(STDOUT_FILENO, w);
 }
 
-// Words, then a number.
-pub(crate) fn with(w: &[u8], x: u64) {
-    words(w);
-    io::print_decimal(STDOUT_FILENO, x);
+// The number at a place, in digits; nothing where there is no such place.
+fn number(n: &[u64], i: usize) {
+    if i < n.len() {
+        io::print_decimal(STDOUT_FILENO, n[i]);
+    }
 }
 
-// Words, then the number of an answer.
-pub(crate) fn answer(w: &[u8], a: Answer) {
-    with(w, rules::number(a) as u64);
+// One byte of a form, after i numbers; how many numbers there are then.
+fn piece(b: u8, name: &[u8], n: &[u64], i: usize) -> usize {
+    if b == b'#' {
+        number(n, i);
+        return i + 1;
+    }
+    if b == b'@' {
+        words(name);
+        return i;
+    }
+    words(&[b]);
+    i
+}
+
+// A form with the name at each @, and the numbers in turn at each #.
+pub(crate) fn form(f: &[u8], name: &[u8], n: &[u64]) {
+    let mut i: usize = 0;
+    let mut k: usize = 0;
+    while k < f.len() {
+        i = piece(f[k], name, n, i);
+        k += 1;
+    }
 }

@@ -16,7 +16,7 @@ abbrev μ-loop : tie.MeasureT-loop
 returns : tie.Need-returns Inv-loop μ-loop
 returns c =
     let t = c .before in
-    run-ended _ _ _ _ _ _ (t .before .before .before .loop .inv) (t .before .before .run-lines .ensures .0) (sym (t .before .is-done .ensures) ∙ not-true _ (t .if1 .taken))
+    run-ended _ _ _ _ _ _ (t .before .before .before .before .loop .inv) (t .before .before .run-lines .ensures .0) (sym (t .before .is-done .ensures) ∙ not-true _ (t .if1 .taken))
 
 loop-less : tie.Need-loop-less Inv-loop μ-loop
 loop-less c =
@@ -26,7 +26,7 @@ loop-less c =
 loop-again : tie.Need-loop-again Inv-loop μ-loop
 loop-again c =
     let t = c .before in
-    run-on _ _ _ _ _ _ (t .before .before .before .loop .inv) (t .before .before .run-lines .ensures .0) (sym (t .before .is-done .ensures) ∙ not-false _ (t .if1 .left))
+    run-on _ _ _ _ _ _ (t .before .before .before .before .loop .inv) (t .before .before .run-lines .ensures .0) (sym (t .before .is-done .ensures) ∙ not-false _ (t .if1 .left))
 
 pub lines-to-spec : {M : Type 1} → statement M
 lines-to-spec =
