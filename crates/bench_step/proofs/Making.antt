@@ -46,11 +46,13 @@ abbrev pub Running : ℕ → State → State → Type 0
 Running horizon s₀ s = (t : State) → RunsTo horizon s t → RunsTo horizon s₀ t
 
 -- it is refused: there is nothing left
-pub run-ended : (s₀ s : State) (horizon : ℕ) (out : List ℕ) (r : Lines) (out′ : List ℕ) → Running horizon s₀ s → RunLines s horizon out r out′ → isDone (r .answer) ≡ false → EndsAt horizon s₀ (s .now .0)
+pub run-ended : (s₀ s : State) (horizon : ℕ) (out : List ℕ) (r : Lines) (out′ : List ℕ) → Running horizon s₀ s
+    → RunLines s horizon out r out′ → isDone (r .answer) ≡ false → EndsAt horizon s₀ (s .now .0)
 run-ended s₀ s horizon out r out′ W R f = (s, W s (refused (λ d. not-both _ (sym f ∙ ap isDone (R .answer ∙ d)))), refl)
 
 -- it is not: it goes on from the state handed back
-pub run-on : (s₀ s : State) (horizon : ℕ) (out : List ℕ) (r : Lines) (out′ : List ℕ) → Running horizon s₀ s → RunLines s horizon out r out′ → isDone (r .answer) ≡ true → Running horizon s₀ (r .state)
+pub run-on : (s₀ s : State) (horizon : ℕ) (out : List ℕ) (r : Lines) (out′ : List ℕ) → Running horizon s₀ s
+    → RunLines s horizon out r out′ → isDone (r .answer) ≡ true → Running horizon s₀ (r .state)
 run-on s₀ s horizon out r out′ W R d t L =
     W t (taken (sym (R .answer) ∙ done-is (r .answer) d) (subst (λ (x : State). RunsTo horizon x t) (R .state) L))
 
@@ -62,5 +64,13 @@ run-left s horizon out r out′ R d =
     omega (arith, m .0, m .1, ap (λ (z : ℕ). horizon * z) (m .2))
 
 -- after calls on an admitted table
-pub lines-end : (n horizon r : ℕ) (list : List ℕ) (s : State) (a a′ : Admitted) → s ≡ madeAll n (a .state) list → a ≡ a′ → EndsAt horizon s r → EndsAt horizon (madeAll n (a′ .state) list) r
+pub lines-end : (n horizon r : ℕ) (list : List ℕ) (s : State) (a a′ : Admitted) → s ≡ madeAll n (a .state) list → a ≡ a′
+    → EndsAt horizon s r → EndsAt horizon (madeAll n (a′ .state) list) r
 lines-end n horizon r list s a a′ e f E = subst (λ (x : State). EndsAt horizon x r) (e ∙ ap (λ (x : Admitted). madeAll n (x .state) list) f) E
+
+-- from a state they lead to one state only
+pub runs-unique : {horizon : ℕ} {s t t′ : State} → RunsTo horizon s t → RunsTo horizon s t′ → t ≡ t′
+runs-unique (refused n) (refused n′) = refl
+runs-unique (refused n) (taken d L) = absurd (n d)
+runs-unique (taken d L) (refused n) = absurd (n d)
+runs-unique (taken d L) (taken d′ L′) = runs-unique L L′

@@ -70,14 +70,14 @@ fn add(book: &mut [u64; 512], i: usize, x: u64) {
 }
 
 // One more, where something is so.
-fn tick(book: &mut [u64; 512], i: usize, so: bool) {
+fn tell(book: &mut [u64; 512], i: usize, so: bool) {
     if so {
         add(book, i, 1);
     }
 }
 
 // The next pseudo-random number.
-fn draw(book: &mut [u64; 512]) -> u64 {
+fn drawn(book: &mut [u64; 512]) -> u64 {
     let x = (at(book, DRAW) % 2147483648 * 1103515245 + 12345) % 2147483648;
     put(book, DRAW, x);
     x
@@ -104,7 +104,7 @@ fn seat(book: &mut [u64; 512], task: u64, len: u64) {
     }
     let i = (task - 1) as usize;
     let number = at(book, RECORDS);
-    tick(book, TWICE, at(book, SEEN + i) == number);
+    tell(book, TWICE, at(book, SEEN + i) == number);
     put(book, SEEN + i, number);
     add(book, RAN + i, len);
 }
@@ -135,8 +135,8 @@ fn record(book: &mut [u64; 512], bytes: &[u8])
     let to = ground::get(bytes, 8, 8);
     let len = length_of(from, to);
     add(book, RECORDS, 1);
-    tick(book, GAPS, from != at(book, END));
-    tick(book, GAPS, len == 0);
+    tell(book, GAPS, from != at(book, END));
+    tell(book, GAPS, len == 0);
     put(book, END, to);
     seats(book, bytes, len);
 }
@@ -158,7 +158,7 @@ fn digest(bytes: &[u8], start: u64) -> u64 {
 }
 
 // The first n records of the room.
-fn records(book: &mut [u64; 512], room: &[u8], n: usize)
+fn all_records(book: &mut [u64; 512], room: &[u8], n: usize)
     requires held { ⌜ (n ≤ 64) × (48 * n ≤ length (now room)) ⌝ }
 {
     let mut i: usize = 0;
@@ -207,7 +207,7 @@ fn go(s: State, horizon: u64, stepwise: bool, room: &mut [u8]) -> Went {
 fn part(s: State, stepwise: bool, book: &mut [u64; 512]) -> Went {
     let mut room = [0u8; 3072];
     let w = go(s, at(book, TICK), stepwise, &mut room);
-    records(book, &room, at_most(w.records, 64));
+    all_records(book, &room, at_most(w.records, 64));
     w
 }
 
@@ -228,15 +228,19 @@ fn reach(s: State, stepwise: bool, book: &mut [u64; 512]) -> State {
 
 // ARRIVALS
 
-// Is arrive called? With chance 0 as soon as the period is over; else by chance, whether it is or not.
-fn called(chance: u64, x: u64, came: u64, period: u64, present: u64) -> bool {
+// Does row i arrive? With chance 0 as soon as its period is over; else by chance, whether it is or not.
+fn called(book: &mut [u64; 512], i: usize, period: u32, chance: u64) -> bool
+    requires few { ⌜ i ≤ 128 ⌝ }
+{
+    let x = drawn(book);
     if 0 < chance {
         return pick(x, chance) == 0;
     }
+    let came = at(book, SINCE + i);
     if came == 0 {
         return true;
     }
-    plus(came, period) <= plus(present, 1)
+    plus(came, period as u64) <= plus(at(book, TICK), 1)
 }
 
 // The answer to an arrival of row i. A job that begins has run nothing.
@@ -256,20 +260,10 @@ fn answered(book: &mut [u64; 512], i: usize, number: u32)
     put(book, SINCE + i, plus(at(book, TICK), 1));
 }
 
-// Perhaps row i arrives.
-fn arrive(s: State, i: usize, period: u32, chance: u64, book: &mut [u64; 512]) -> State
+// Row i arrives.
+fn arrive(s: State, i: usize, book: &mut [u64; 512]) -> State
     requires few { ⌜ i ≤ 128 ⌝ }
 {
-    let x = draw(book);
-    if !called(
-        chance,
-        x,
-        at(book, SINCE + i),
-        period as u64,
-        at(book, TICK),
-    ) {
-        return s;
-    }
     let a = calls::arrive(s, (i + 1) as u64);
     let answer = a.answer;
     answered(book, i, rules::number(answer));
@@ -284,7 +278,9 @@ fn arrivals(s: State, chance: u64, book: &mut [u64; 512]) -> State {
     let mut state = s;
     let mut i: usize = 0;
     while i < n {
-        state = arrive(state, i, period[i], chance, book);
+        if called(book, i, period[i], chance) {
+            state = arrive(state, i, book);
+        }
         i += 1;
     }
     state
@@ -331,7 +327,7 @@ fn judge(book: &mut [u64; 512], i: usize, e: u64, q: u64, scale: u64, going: boo
         }
     }
     add(book, COMPARED, 1);
-    tick(book, DIFFER, at(book, RAN + i) != right(e, q, scale, gone));
+    tell(book, DIFFER, at(book, RAN + i) != right(e, q, scale, gone));
 }
 
 // The jobs of all rows.
@@ -360,7 +356,7 @@ fn judge_all(s: State, book: &mut [u64; 512]) {
 
 // The next horizon.
 fn onward(book: &mut [u64; 512], stride: u64) {
-    let x = draw(book);
+    let x = drawn(book);
     add(book, TICK, plus(pick(x, stride), 1));
 }
 

@@ -18,6 +18,7 @@ ghost use lib.ListN.{length};
 ghost use Rattle.ground.specs.Bytes.{le, pasted};
 use crate::course;
 use crate::numbers::at_most;
+use crate::numbers::plus;
 use crate::say;
 use course::Plan;
 
@@ -63,7 +64,7 @@ fn changed(bytes: &[u8], from: usize, to: usize) -> u64 {
     let mut i = from;
     while i < to {
         if number(bytes, i, 1) != 255 {
-            n = crate::numbers::plus(n, 1);
+            n = plus(n, 1);
         }
         i += 1;
     }
@@ -294,21 +295,27 @@ fn obey_table(word: &[u8], n: [u64; 6], table: &mut [u8], len: usize) -> usize {
 fn obey_state(word: &[u8], n: [u64; 6], name: &[u8], state: &mut [u8], kept: &mut [u8]) {
     if check::same(word, b"arrive") {
         arrive(state, n[1], name);
+        return;
     }
     if check::same(word, b"step") {
         step(state, n[1], n[2], name);
+        return;
     }
     if check::same(word, b"run") {
         run(state, n[1]);
+        return;
     }
     if check::same(word, b"keep") {
         copy(state, kept);
+        return;
     }
     if check::same(word, b"back") {
         copy(kept, state);
+        return;
     }
     if check::same(word, b"set") {
         set(state, n[1] as usize, n[2] as usize, n[3]);
+        return;
     }
     if check::same(word, b"ask") {
         ask(state, kept, name);

@@ -5,18 +5,19 @@ pub(crate) fn words(w: &[u8]) {
     io::write_all(STDOUT_FILENO, w);
 }
 
-// The number at a place, in digits; nothing where there is no such place.
-fn number(n: &[u64], i: usize) {
+// The number at a place, in digits, and the next place; nothing where there is no such place.
+fn number(n: &[u64], i: usize) -> usize {
     if i < n.len() {
         io::print_decimal(STDOUT_FILENO, n[i]);
+        return i + 1;
     }
+    i
 }
 
-// One byte of a form, after i numbers; how many numbers there are then.
+// One byte of a form: the name at an @, the number at place i at a #; the place of the next number.
 fn piece(b: u8, name: &[u8], n: &[u64], i: usize) -> usize {
     if b == b'#' {
-        number(n, i);
-        return i + 1;
+        return number(n, i);
     }
     if b == b'@' {
         words(name);
