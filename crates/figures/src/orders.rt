@@ -1,16 +1,16 @@
 // The orders: a word, its numbers, and after a colon the name under which the answer is written. Other words are passed by.
-//   table N P E D        the table is N rows P E D
-//   rows N P E D         N rows more
-//   length N             the table is N bytes long
-//   admit M: NAME        admission for M processors; without a name nothing is written
-//   arrive T: NAME       an arrival of task T
-//   step H R: NAME       a step to tick H with R bytes of room; without a name its record is written
-//   run H                all steps to tick H
-//   keep                 keep the state
-//   back                 take the state that was kept
-//   set AT WIDTH VALUE   a number into the image of the state
-//   ask: NAME            what an arrival of task 1 and a step to tick 3 answer; then back
-//   course M C S N B: NAME    a course on M processors: chance, stride, stops, by step where B is 1
+//    1 table N P E D       the table is N rows P E D
+//    2 rows N P E D        N rows more
+//    3 length N            the table is N bytes long
+//    4 admit M: NAME       admission for M processors; without a name nothing is written
+//    5 course M C S N B: NAME    a course on M processors: chance, stride, stops, by step where B is 1
+//    6 arrive T: NAME      an arrival of task T
+//    7 step H R: NAME      a step to tick H with R bytes of room; without a name its record is written
+//    8 run H               all steps to tick H
+//    9 set AT WIDTH VALUE  a number into the image of the state
+//   10 keep                keep the state
+//   11 back                take the state that was kept
+//   12 ask: NAME           what an arrival of task 1 and a step to tick 3 answer; then back
 // The calls are those under C names, on the image of the state (its layout is in include/robinrow.h).
 ghost use mathlib.Core.Path.{_≡_};
 ghost use Prim.Native.Nat.{_+_, _≤_};
@@ -277,60 +277,87 @@ fn numbers_of(s: &[u8]) -> [u64; 6] {
     n
 }
 
-// Orders on the table; how many bytes it has then.
-fn obey_table(word: &[u8], n: [u64; 6], table: &mut [u8], len: usize) -> usize {
+// The number of the order with this word, or 0.
+fn order_of(word: &[u8]) -> u64 {
     if check::same(word, b"table") {
-        return rows(table, 0, n[1], n[2], n[3], n[4]);
+        return 1;
     }
     if check::same(word, b"rows") {
-        return rows(table, len, n[1], n[2], n[3], n[4]);
+        return 2;
     }
     if check::same(word, b"length") {
-        return n[1] as usize;
+        return 3;
     }
-    len
-}
-
-// Orders on the state and the state that was kept.
-fn obey_state(word: &[u8], n: [u64; 6], name: &[u8], state: &mut [u8], kept: &mut [u8]) {
+    if check::same(word, b"admit") {
+        return 4;
+    }
+    if check::same(word, b"course") {
+        return 5;
+    }
     if check::same(word, b"arrive") {
-        arrive(state, n[1], name);
-        return;
+        return 6;
     }
     if check::same(word, b"step") {
-        step(state, n[1], n[2], name);
-        return;
+        return 7;
     }
     if check::same(word, b"run") {
-        run(state, n[1]);
-        return;
-    }
-    if check::same(word, b"keep") {
-        copy(state, kept);
-        return;
-    }
-    if check::same(word, b"back") {
-        copy(kept, state);
-        return;
+        return 8;
     }
     if check::same(word, b"set") {
-        set(state, n[1] as usize, n[2] as usize, n[3]);
-        return;
+        return 9;
+    }
+    if check::same(word, b"keep") {
+        return 10;
+    }
+    if check::same(word, b"back") {
+        return 11;
     }
     if check::same(word, b"ask") {
-        ask(state, kept, name);
+        return 12;
+    }
+    0
+}
+
+// Orders on the table; how many bytes it has then.
+fn obey_table(order: u64, n: [u64; 6], table: &mut [u8], len: usize) -> usize {
+    match order {
+        1 => rows(table, 0, n[1], n[2], n[3], n[4]),
+        2 => rows(table, len, n[1], n[2], n[3], n[4]),
+        3 => n[1] as usize,
+        _ => len,
     }
 }
 
 // Orders that make a state of the table.
-fn obey_both(word: &[u8], n: [u64; 6], name: &[u8], state: &mut [u8], table: &[u8], len: usize) {
-    if check::same(word, b"admit") {
+fn obey_both(order: u64, n: [u64; 6], name: &[u8], state: &mut [u8], table: &[u8], len: usize) {
+    if order == 4 {
         admit(state, table, len, n[1] as usize, name);
         return;
     }
-    if check::same(word, b"course") {
+    if order == 5 {
         admitted(state, table, len, n[1] as usize);
         course_from(state, n, name);
+    }
+}
+
+// Orders on the state.
+fn obey_state(order: u64, n: [u64; 6], name: &[u8], state: &mut [u8]) {
+    match order {
+        6 => arrive(state, n[1], name),
+        7 => step(state, n[1], n[2], name),
+        8 => run(state, n[1]),
+        9 => set(state, n[1] as usize, n[2] as usize, n[3]),
+        _ => {}
+    }
+}
+
+// Orders on the state and the state that was kept.
+fn obey_kept(order: u64, name: &[u8], state: &mut [u8], kept: &mut [u8]) {
+    match order {
+        10 => copy(state, kept),
+        11 => copy(kept, state),
+        12 => ask(state, kept, name),
+        _ => {}
     }
 }
 
@@ -355,9 +382,11 @@ fn line(s: &[u8], state: &mut [u8], kept: &mut [u8], table: &mut [u8], len: usiz
     let word = &s[start..space];
     let name = &s[from..];
     let n = numbers_of(&s[start..colon]);
-    obey_state(word, n, name, state, kept);
-    obey_both(word, n, name, state, table, len);
-    obey_table(word, n, table, len)
+    let order = order_of(word);
+    obey_kept(order, name, state, kept);
+    obey_state(order, n, name, state);
+    obey_both(order, n, name, state, table, len);
+    obey_table(order, n, table, len)
 }
 
 // All lines.
