@@ -236,7 +236,7 @@ fn course_from(state: &[u8], n: [u64; 6], name: &[u8]) {
 
 // LINES
 
-// The number that v and one digit more spell, or the largest where it is less; other bytes leave v.
+// The number that v and one digit more spell; from 18,446,744,073,709,551,610 on the largest. Other bytes leave v.
 fn spelled(v: u64, b: u8) -> u64 {
     if b < 48 {
         return v;
