@@ -9,7 +9,7 @@ ghost use Rattle.holding.specs.Holds.{holdsOf};
 ghost use Rattle.calls.specs.Admit.{admitOf};
 ghost use Rattle.bench_step.specs.Moments.{termsOf, momentOf};
 ghost use Rattle.bench_step.specs.Held.{Taken, doneOf, AllTaken, doneAll};
-ghost use Rattle.bench_step.specs.Made.{madeAll, Ended};
+ghost use Rattle.bench_step.specs.Made.{madeAll, EndsAt};
 ghost use Rattle.text.specs.Output.{Put, recordLines};
 use ground::Instant;
 use plane::State;
@@ -258,7 +258,7 @@ pub extern "C" fn record_lines(out: &mut [u8], room: &[u8], n: usize, m: usize) 
 
 // Runs to a horizon, part by part; the lines of each part are written over those of the one before.
 fn lines_to(s: State, horizon: u64, out: &mut [u8; 65536]) -> u64
-    ensures ends { λ r. ⌜ Ended horizon r ⌝ }
+    ensures ends { λ r. ⌜ EndsAt horizon s r ⌝ }
 {
     let mut state = s;
     loop {
@@ -281,7 +281,7 @@ pub extern "C" fn public_lines(
     horizon: u64,
     out: &mut [u8; 65536],
 ) -> u64
-    ensures ends { λ r. ⌜ Ended horizon r ⌝ }
+    ensures ends { λ r. ⌜ EndsAt horizon (madeAll 48 (admitOf (now (table .entry)) m .state) (now (list .entry))) r ⌝ }
 {
     let a = calls::admit(table, m);
     let first = a.state;

@@ -1,19 +1,12 @@
-// Figures that are run and compared: the library's calls at their bounds, Table 1 of document 001, and long courses.
-mod admission;
-mod clock;
-mod courses;
-mod damage;
+// Figures that are run and compared: the library's calls at their bounds, Table 1 of document 001, and long courses. The
+// cases are orders, a line each, in the input.
+mod course;
 mod numbers;
-mod refusals;
+mod orders;
 mod say;
-mod sheet;
-mod table_one;
-mod tally;
 
 fn main() {
-    admission::cases();
-    table_one::cases();
-    refusals::cases();
-    clock::cases();
-    courses::cases(table_one::rows(), admission::p1());
+    let mut buf = io::large_buffer();
+    let n = io::read_full(0, &mut buf);
+    orders::all(&buf[..n]);
 }

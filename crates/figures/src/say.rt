@@ -1,36 +1,38 @@
-// What the program writes, a piece at a time.
-ghost use Prim.Native.Nat.{_≤_};
+// What the program writes.
 use libc::STDOUT_FILENO;
-use rules::Answer;
 
-pub fn words(w: &[u8]) {
+pub(crate) fn words(w: &[u8]) {
     io::write_all(STDOUT_FILENO, w);
 }
 
-pub fn number(x: u64) {
-    io::print_decimal(STDOUT_FILENO, x);
+// The number at a place, in digits, and the next place; nothing where there is no such place.
+fn number(n: &[u64], i: usize) -> usize {
+    if i < n.len() {
+        io::print_decimal(STDOUT_FILENO, n[i]);
+        return i + 1;
+    }
+    i
 }
 
-// Words, then a number.
-pub fn with(w: &[u8], x: u64) {
-    words(w);
-    number(x);
+// One byte of a form: the name at an @, the number at place i at a #; the place of the next number.
+fn piece(b: u8, name: &[u8], n: &[u64], i: usize) -> usize {
+    if b == b'#' {
+        return number(n, i);
+    }
+    if b == b'@' {
+        words(name);
+        return i;
+    }
+    words(&[b]);
+    i
 }
 
-// Words, then the number of an answer.
-pub fn answer(w: &[u8], a: Answer) {
-    with(w, rules::number(a) as u64);
-}
-
-pub fn line_end() {
-    words(b"\n");
-}
-
-// The line of the record in the room: from, to, then m task numbers.
-pub fn record(room: &[u8; 48], m: usize)
-    requires few { ⌜ m ≤ 16 ⌝ }
-{
-    let mut out = [0u8; 138];
-    let k = text::put_records(&mut out, room, 1, m);
-    io::write_all(STDOUT_FILENO, &out[..k]);
+// A form with the name at each @, and the numbers in turn at each #.
+pub(crate) fn form(f: &[u8], name: &[u8], n: &[u64]) {
+    let mut i: usize = 0;
+    let mut k: usize = 0;
+    while k < f.len() {
+        i = piece(f[k], name, n, i);
+        k += 1;
+    }
 }

@@ -209,18 +209,18 @@ fn checked(s: &[u8]) -> bool
 }
 
 // Writes all that a text comes to.
-pub fn answer(s: &[u8]) {
+fn answer(s: &[u8]) {
     if checked(s) {
         run(s);
     }
 }
 
-// Reads a text and writes all that it comes to; more than 65,536 bytes are refused.
-pub fn answer_input() {
+// Reads a text from a descriptor and writes all that it comes to; more than 65,536 bytes are refused.
+pub fn answer_from(fd: i32) {
     let mut buf = io::large_buffer();
-    let n = io::read_full(0, &mut buf);
+    let n = io::read_full(fd, &mut buf);
     let mut more = [0u8; 1];
-    let k = io::read_full(0, &mut more);
+    let k = io::read_full(fd, &mut more);
     if k == 1 {
         refuse(14, 0);
         return;
