@@ -1,10 +1,7 @@
 pub mod Parts
 pub mod Sizes
 pub mod Refining
-pub mod Serving
 pub mod Went
-pub mod Runs
 pub mod Going
-pub mod Demands
 pub mod Coming
 pub mod Answering

@@ -1,17 +1,16 @@
 -- Each call is the rules' call, seen through the view
 use mathlib.Core.Path.{_≡_, refl, sym, _∙_, ap, subst}
-use mathlib.Core.Bool.{Bool, true, false, not, _&&_}
+use mathlib.Core.Bool.{Bool, true, false, not}
 use mathlib.Core.List.{List, _++_}
-use Prim.Native.Nat.{ℕ, zero, suc, _+_, _*_, _-_, _/_, _%_, _≤_, _<_}
+use Prim.Native.Nat.{ℕ, _-_, _≤_, _<_}
 use native.Mathlib.Omega.{arith}
-use lib.Dec.{leb, ltb, eqb}
-use lib.ListN.{length, getD, drop}
+use lib.Dec.{leb}
+use lib.ListN.{length, drop}
 use Rattle.rules.specs.declared.Answer.{Answer}
 use Rattle.rules.specs.declared.Answer.the-variants.{Done, TaskNumber, BetweenTicks, TooSoon}
 use Rattle.plane.specs.declared.State.{State}
 use Rattle.rules.specs.State as Rules
 use Rattle.rules.specs.Calls as Rule
-use Rattle.calls.specs.Demands as Say
 use Rattle.ground.specs.Tests.{if_then_else_, Says}
 use Rattle.ground.proofs.Tests.{leb-says, and-says, is-true, of-true}
 use Rattle.rules.specs.Answers.{isDone}
@@ -92,13 +91,6 @@ arrive-kept s task W =
     let f : Rule.arrive (view s) task .state ≡ view s = rule-arrive (view s) task a (sym (arrive-same s task W)) ∙ ap (λ b. if b then Rule.arriving (view s) (task - 1) else view s) n in
     record { whole = subst Whole (sym e) W; same = ap view e ∙ sym f })
 
-pub arrives : (s : State) (task : ℕ) → Sized s → holdsOf s ≡ true → Say.Arrives s task
-unfolding Rule.arrive arriveOf
-arrives s task z h =
-    let W = holds-whole s z h in
-    let K = arrive-kept s task W in
-    record { answer = arrive-same s task W; state = K .same; holds = whole-holds (arriveOf s task .state) (K .whole) }
-
 -- STEP
 step-reason : (s : State) (h n : ℕ) → Whole s → stepAnswerOf s h n ≡ Done → StepReason (view s) h n Done
 step-reason s h n W d = subst (StepReason (view s) h n) (sym (step-same s h n W) ∙ d) (step-answers (view s) h n)
@@ -145,15 +137,3 @@ step-kept s h room W =
   where
     n : ℕ
     n = length room
-
-pub steps : (s : State) (h : ℕ) (room : List ℕ) → Sized s → holdsOf s ≡ true → Say.Steps s h room
-unfolding Rule.step stepOf
-steps s h room z q =
-    let W = holds-whole s z q in
-    let K = step-kept s h room W in
-    record {
-      answer = step-same s h (length room) W;
-      state = K .kept .same;
-      bytes = K .room-same;
-      holds = whole-holds (stepOf s h (length room) .state) (K .kept .whole);
-    }

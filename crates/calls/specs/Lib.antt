@@ -2,4 +2,3 @@ pub mod Admit
 pub mod Arrive
 pub mod Step
 pub mod Run
-pub mod Demands

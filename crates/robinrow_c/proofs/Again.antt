@@ -18,7 +18,7 @@ use Rattle.calls.specs.Admit.{admitOf}
 use Rattle.calls.specs.Arrive.{arriveOf}
 use Rattle.calls.specs.Step.{stepOf}
 use Rattle.calls.specs.Run.{runOf}
-use Rattle.calls.proofs.Demands.{admits, demand-2}
+use Rattle.demands.proofs.Demands.{admits, demand-2}
 use Rattle.robinrow_c.specs.Exports.{noImage, numberBy, imageBy, Again}
 use Rattle.calls.proofs.Answering.{done-is}
 use Rattle.robinrow_c.proofs.Answers.{not-zero}

@@ -15,7 +15,7 @@ use Rattle.table.proofs.Admitted.{rows-of-length}
 use Rattle.plane.specs.declared.State.{State}
 use Rattle.calls.specs.Admit.{admitOf}
 use Rattle.calls.specs.Run.{runOf}
-use Rattle.calls.proofs.Demands.{admits}
+use Rattle.demands.proofs.Demands.{admits}
 use Rattle.calls.proofs.Went.{run-most}
 
 -- only Done has the number 0

@@ -20,7 +20,7 @@ use Rattle.calls.specs.Admit.{blankState, admitOf}
 use Rattle.calls.specs.Arrive.{arriveOf}
 use Rattle.calls.specs.Step.{stepOf, stepRoom}
 use Rattle.calls.specs.Run.{runOf, runRoom}
-use Rattle.calls.proofs.Demands.{demand-1}
+use Rattle.demands.proofs.Demands.{demand-1}
 use Rattle.robinrow_c.specs.Exports.{noImage, numberBy, imageBy, admitNumber, admitImage, arriveNumber, arriveImage, stepNumber, stepImage, stepRecord, most, lent, runNumber, runCount, runImage, runRecords, Refusals}
 use Rattle.calls.proofs.Answering.{done-is}
 

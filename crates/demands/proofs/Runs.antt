@@ -2,15 +2,14 @@
 use mathlib.Core.Path.{_≡_, refl, sym, _∙_, ap, subst}
 use mathlib.Core.Bool.{Bool, true, false}
 use mathlib.Core.List.{List, [], _∷_, _++_, append-nil, append-assoc}
-use Prim.Native.Nat.{ℕ, zero, suc, _+_, _*_, _/_, _≤_, _<_}
+use Prim.Native.Nat.{ℕ, zero, suc, _*_, _/_, _≤_, _<_}
 use native.Mathlib.Omega.{arith}
-use lib.Dec.{leb, ltb}
-use lib.ListN.{length, take, drop, replicate, length-replicate}
+use lib.Dec.{ltb}
+use lib.ListN.{length, drop, replicate, length-replicate}
 use lib.Seq.{take-at, drop-at}
 use Rattle.rules.specs.declared.Answer.{Answer}
 use Rattle.rules.specs.declared.Answer.the-variants.{Done, HorizonNotLater}
 use Rattle.plane.specs.declared.State.{State}
-use Rattle.calls.specs.declared.Stepped.{Stepped}
 use Rattle.ground.specs.Tests.{if_then_else_, Says}
 use Rattle.ground.proofs.Tests.{ltb-says}
 use Rattle.rules.specs.Answers.{isDone}
@@ -21,13 +20,13 @@ use Rattle.rules.proofs.Jobs.{by-answer}
 use Rattle.rules.proofs.Refusing.{step-exact, step-answers}
 use Rattle.plane.specs.Machine.{movedOf}
 use Rattle.plane.specs.View.{view}
 use Rattle.calls.specs.Run.{Went, went, steps, goesOn, runOf, runRoom}
-use Rattle.calls.specs.Demands.{Calls, calling, callingAll, stepCall, runCall, readRecords, oneStep}
+use Rattle.demands.specs.Demands.{Calls, calling, callingAll, runCall, readRecords, oneStep}
 use Rattle.calls.specs.Step.{stepAnswerOf, stepOf, stepRoom}
 use Rattle.whole.specs.Whole.{Whole}
 use Rattle.whole.proofs.Keeping.{step-whole}
 use Rattle.calls.proofs.Refining.{step-same}
 use Rattle.calls.proofs.Went.{goes-none, goes-more, went-more, went-none, by-going, record-48}
 use Rattle.rules.specs.Bounds.{clock}
 
 -- with a horizon that lies ahead, step does not refuse; with one that does not, it refuses by 11

@@ -12,9 +12,9 @@ use Rattle.rules.specs.declared.Answer.the-variants.{Done, Processors, TableLen
 use Rattle.plane.specs.declared.State.{State}
 use Rattle.rules.specs.State as Rules
 use Rattle.rules.specs.Run as Rule
-use Rattle.calls.specs.Demands as Say
+use Rattle.rules.specs.Calls as RuleCalls
+use Rattle.demands.specs.Demands as Say
 use Rattle.calls.specs.Run as Runs
-use Rattle.calls.proofs.Refining as Refines
 use Rattle.ground.specs.Tests.{if_then_else_}
 use Rattle.rules.specs.Admission.{admitVerdict, admit}
 use Rattle.rules.specs.Answers.{numberOf, isDone}
@@ -40,16 +40,36 @@ use Rattle.whole.specs.Fresh.{freshState}
 use Rattle.whole.specs.Whole.{Whole}
 use Rattle.whole.proofs.Fresh.{fresh-view, fresh-sound, fresh-whole}
 use Rattle.whole.proofs.Keeping.{sized-by}
 use Rattle.calls.specs.Admit.{blankState, admitOf}
 use Rattle.calls.specs.Arrive.{taskIn, wholeTick, soonAgain, arriveAnswerOf, arriveOf}
-use Rattle.calls.specs.Demands.{OneOf, callingAll, starting, seen}
+use Rattle.demands.specs.Demands.{OneOf, callingAll, starting, seen}
 use Rattle.calls.specs.Run.{went, runOf, runRoom}
 use Rattle.calls.specs.Step.{movesAnswer, stepAnswerOf, stepOf, stepRoom}
-use Rattle.calls.proofs.Refining.{arrives, holds-whole, whole-holds, step-same}
-use Rattle.calls.proofs.Runs.{run-steps}
-use Rattle.calls.proofs.Serving.{Followed, plain, all-together, calls-followed, seen-good, seen-within, seen-next, taken-in}
+use Rattle.calls.proofs.Refining.{arrive-kept, arrive-same, holds-whole, step-kept, step-same, whole-holds}
+use Rattle.demands.proofs.Runs.{run-steps}
+use Rattle.demands.proofs.Serving.{Followed, plain, all-together, calls-followed, seen-good, seen-within, seen-next, taken-in}
 use Rattle.calls.proofs.Went.{went-whole}
 use Rattle.rules.specs.Bounds.{clock}
+
+-- EACH CALL IS THE RULES' CALL
+pub arrives : (s : State) (task : ℕ) → Sized s → holdsOf s ≡ true → Say.Arrives s task
+unfolding RuleCalls.arrive arriveOf
+arrives s task z h =
+    let W = holds-whole s z h in
+    let K = arrive-kept s task W in
+    record { answer = arrive-same s task W; state = K .same; holds = whole-holds (arriveOf s task .state) (K .whole) }
+
+pub steps : (s : State) (h : ℕ) (room : List ℕ) → Sized s → holdsOf s ≡ true → Say.Steps s h room
+unfolding RuleCalls.step stepOf
+steps s h room z q =
+    let W = holds-whole s z q in
+    let K = step-kept s h room W in
+    record {
+      answer = step-same s h (length room) W;
+      state = K .kept .same;
+      bytes = K .room-same;
+      holds = whole-holds (stepOf s h (length room) .state) (K .kept .whole);
+    }
 
 -- DONE OR NOT
 not-done : (a : Answer) → ¬ (a ≡ Done) → isDone a ≡ false
@@ -178,7 +198,7 @@ demand-2 = record {
   together = λ s z. holding-says s z (z .order);
   admits = admits;
   arrives = λ s task z. (arrives s task z, arrive-13 s task);
-  steps = λ s h room z. (Refines.steps s h room z, step-13 s h (length room));
+  steps = λ s h room z. (steps s h room z, step-13 s h (length room));
   runs = run-is-steps;
 }
 

@@ -23,13 +23,13 @@ use Rattle.rules.proofs.Jobs.{Good, perform-good}
 use Rattle.rules.proofs.Demands.{Manned, manned-on, next-of}
 use Rattle.plane.specs.Machine.{tickAt}
 use Rattle.plane.specs.View.{view}
-use Rattle.calls.specs.Demands.{Call, arriveCall, stepCall, runCall, Calls, calling, callingAll, seen, NextOf, oneStep}
+use Rattle.demands.specs.Demands.{Call, arriveCall, stepCall, runCall, Calls, calling, callingAll, seen, NextOf, oneStep}
 use Rattle.calls.specs.Arrive.{arriveOf}
 use Rattle.calls.specs.Step.{stepOf, stepRoom}
 use Rattle.calls.specs.Run.{runOf}
 use Rattle.whole.specs.Whole.{Whole}
 use Rattle.calls.proofs.Refining.{arrive-same, step-same, arrive-kept, step-kept}
-use Rattle.calls.proofs.Runs.{run-called}
+use Rattle.demands.proofs.Runs.{run-called}
 
 -- THE TWO RUNS GO TOGETHER
 pub record Together-run (r : Calls) (q : Runs.Run) : Type 0 where

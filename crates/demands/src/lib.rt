@@ -1,0 +1,1 @@
+// The three demands, said of the calls, and why they hold. There is no code here.
