@@ -3,14 +3,13 @@ use mathlib.Core.Path.{_≡_, refl, sym, _∙_, ap}
 use mathlib.Core.Bool.{Bool, true, false, not, _&&_}
 use mathlib.Core.Logic.{_≢_}
 use mathlib.Core.List.{List}
-use Prim.Native.Nat.{ℕ, _+_, _-_, _/_, _%_, _≤_, _<_}
-use native.Mathlib.Omega.{arith}
+use Prim.Native.Nat.{ℕ, _+_, _-_, _/_, _%_, _≤_}
 use lib.Dec.{leb, ltb, eqb}
 use lib.ListN.{getD}
 use Rattle.rules.specs.declared.Answer.{Answer}
 use Rattle.rules.specs.declared.Answer.the-variants.{Done, TaskNumber, BetweenTicks, TooSoon}
 use Rattle.ground.specs.Tests.{if_then_else_, Says}
-use Rattle.ground.proofs.Tests.{leb-says, ltb-says, eqb-says, and-says, is-true, is-false}
+use Rattle.ground.proofs.Tests.{leb-says, eqb-says, and-says, is-true, is-false}
 use Rattle.calls.specs.Arrive.{taskIn, wholeTick, soonAgain, comesBy}
 
 module _ (count scale now : ℕ) (period : List ℕ) (arrived : List Bool) (last : List ℕ) (task : ℕ) where
@@ -25,23 +24,11 @@ module _ (count scale now : ℕ) (period : List ℕ) (arrived : List Bool) (last
     comes-8 n = rw (is-true (taskIn count task) in-says (a, b), is-false (eqb (now % scale) 0) (eqb-says (now % scale) 0) n)
 
     module _ (t : now % scale ≡ 0) where
-      pub comes-9 : getD arrived (task - 1) false ≡ true → now / scale < getD last (task - 1) 0 + getD period (task - 1) 0 → TooSoon ≡ comesBy count scale now period arrived last task
-      comes-9 c d =
-          rw (
-            is-true (taskIn count task) in-says (a, b),
-            is-true (eqb (now % scale) 0) (eqb-says (now % scale) 0) t,
-            c,
-            is-true (ltb (now / scale) (getD last (task - 1) 0 + getD period (task - 1) 0)) (ltb-says (now / scale) (getD last (task - 1) 0 + getD period (task - 1) 0)) d,
-          )
+      pub comes-9 : getD arrived (task - 1) false ≡ true → ltb (now / scale) (getD last (task - 1) 0 + getD period (task - 1) 0) ≡ true → TooSoon ≡ comesBy count scale now period arrived last task
+      comes-9 c d = rw (is-true (taskIn count task) in-says (a, b), is-true (eqb (now % scale) 0) (eqb-says (now % scale) 0) t, c, d)
 
-      pub comes-late : getD arrived (task - 1) false ≡ true → getD last (task - 1) 0 + getD period (task - 1) 0 ≤ now / scale → Done ≡ comesBy count scale now period arrived last task
-      comes-late c d =
-          rw (
-            is-true (taskIn count task) in-says (a, b),
-            is-true (eqb (now % scale) 0) (eqb-says (now % scale) 0) t,
-            c,
-            is-false (ltb (now / scale) (getD last (task - 1) 0 + getD period (task - 1) 0)) (ltb-says (now / scale) (getD last (task - 1) 0 + getD period (task - 1) 0)) (λ q. omega arith),
-          )
+      pub comes-late : getD arrived (task - 1) false ≡ true → ltb (now / scale) (getD last (task - 1) 0 + getD period (task - 1) 0) ≡ false → Done ≡ comesBy count scale now period arrived last task
+      comes-late c d = rw (is-true (taskIn count task) in-says (a, b), is-true (eqb (now % scale) 0) (eqb-says (now % scale) 0) t, c, d)
 
       pub comes-first : getD arrived (task - 1) false ≡ false → Done ≡ comesBy count scale now period arrived last task
       comes-first c = rw (is-true (taskIn count task) in-says (a, b), is-true (eqb (now % scale) 0) (eqb-says (now % scale) 0) t, c)

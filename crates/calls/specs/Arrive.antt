@@ -58,3 +58,8 @@ pub record MayCome (s : State) (task : ℕ) : Type 0 where
   pub whole : Whole s
   pub number : 1 ≤ task
   pub comes : Comes (view s) (task - 1)
+
+-- the answer to an arrival, and what it says of the state
+pub record MayArrive (s : State) (task : ℕ) (r : Answer) : Type 0 where
+  pub answer : r ≡ arriveAnswerOf s task
+  pub comes : isDone r ≡ true → MayCome s task

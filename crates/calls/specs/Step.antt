@@ -1,5 +1,6 @@
 -- STEP, as the code answers it
-use mathlib.Core.Bool.{Bool}
+use mathlib.Core.Path.{_≡_}
+use mathlib.Core.Bool.{Bool, true}
 use mathlib.Core.List.{List, _++_}
 use Prim.Native.Nat.{ℕ, _*_, _<_, _≤_}
 use lib.Dec.{leb, ltb}
@@ -40,3 +41,13 @@ pub record Ahead (s : State) (horizon room : ℕ) : Type 0 where
   pub ahead : s .now .0 < horizon * s .table .scale
   pub clock : horizon ≤ clock
   pub space : 48 ≤ room
+
+-- the answer to a step, and what it says of the state
+pub record MayStep (s : State) (horizon room : ℕ) (r : Answer) : Type 0 where
+  pub answer : r ≡ stepAnswerOf s horizon room
+  pub ahead : isDone r ≡ true → Ahead s horizon room
+
+-- does the state hold together, and what that says of it
+pub record Checked (s : State) (r : Bool) : Type 0 where
+  pub holds : r ≡ holdsOf s
+  pub whole : r ≡ true → Whole s

@@ -2,17 +2,18 @@
 ghost use mathlib.Core.Path.{_≡_};
 ghost use mathlib.Core.Bool.{true};
 ghost use lib.ListN.{length};
-ghost use Rattle.holding.specs.Holds.{holdsOf};
 ghost use Rattle.whole.specs.Fresh.{freshState};
 ghost use Rattle.calls.specs.Admit.{admitOf};
-ghost use Prim.Native.Nat.{_<_};
-ghost use Rattle.calls.specs.Arrive.{comesBy, Dated, arriveAnswerOf, MayCome, arriveOf};
-ghost use Rattle.whole.specs.Whole.{Whole};
-ghost use Rattle.whole.specs.Lent.{here};
+ghost use Prim.Native.Nat.{_+_, _≤_};
+ghost use lib.Dec.{ltb};
+ghost use Rattle.calls.specs.Arrive.{comesBy, Dated, MayArrive, arriveOf};
+ghost use Rattle.whole.specs.Lent.{here, old};
 ghost use Rattle.plane.specs.View.{Sized};
 ghost use Rattle.rules.specs.Answers.{isDone};
-ghost use Rattle.calls.specs.Step.{stepAnswerOf, Ahead, stepOf, stepRoom};
+ghost use Rattle.rules.specs.Bounds.{clock};
+ghost use Rattle.calls.specs.Step.{Checked, Ahead, MayStep, stepOf, stepRoom};
 ghost use Rattle.calls.specs.Run.{goesOn, runOf, runRoom};
+use floor::Lengths;
 use ground::Instant;
 use plane::Jobs;
 use plane::State;
@@ -88,11 +89,12 @@ pub fn admit(bytes: &[u8], m: usize) -> Admitted
     }
 }
 
-// A number of ticks of the table.
-fn wide(x: u32) -> u64
-    ensures is { λ r. ⌜ (r ≡ x) × (r < 4294967296) ⌝ }
+// Does a tick lie before the last arrival plus p?
+fn too_soon(tick: u64, last: u64, period: u32) -> bool
+    requires dated { ⌜ last ≤ clock ⌝ }
+    ensures is { λ r. ⌜ r ≡ ltb tick (last + period) ⌝ }
 {
-    x as u64
+    tick < last + table::wide(period)
 }
 
 // The answer to an arrival on a state that holds together: 7, 8, 9 or 0.
@@ -119,7 +121,7 @@ fn comes(
     }
     let i = (task - 1) as usize;
     if arrived[i] {
-        if present.0 / terms.scale < last[i] + wide(period[i]) {
+        if too_soon(present.0 / terms.scale, last[i], period[i]) {
             return Answer::TooSoon;
         }
     }
@@ -147,9 +149,10 @@ fn check(
     slots: &[u16; 16],
 ) -> bool
     requires sized { ⌜ Sized (here terms moment period exec deadline share order awake arrived last rk rt wk wt slots) ⌝ }
-    ensures is { λ r. ⌜ (r ≡ holdsOf (here terms moment (period .entry) (exec .entry) (deadline .entry) (share .entry) (order .entry) (awake .entry) (arrived .entry) (last .entry) (rk .entry) (rt .entry) (wk .entry) (wt .entry) (slots .entry))) × (r ≡ true → Whole (here terms moment (period .entry) (exec .entry) (deadline .entry) (share .entry) (order .entry) (awake .entry) (arrived .entry) (last .entry) (rk .entry) (rt .entry) (wk .entry) (wt .entry) (slots .entry))) ⌝ }
+    ensures is { λ r. ⌜ Checked (old terms moment period exec deadline share order awake arrived last rk rt wk wt slots) r ⌝ }
 {
     let present = moment.now;
+    let n = moment.lengths;
     holding::holds_lent(
         period,
         exec,
@@ -161,16 +164,16 @@ fn check(
         terms.scale,
         present,
         moment.going,
-        moment.end,
+        moment.end_tick,
         awake,
         arrived,
         last,
         rk,
         rt,
-        moment.running,
+        n.running,
         wk,
         wt,
-        moment.waiting,
+        n.waiting,
         slots,
     )
 }
@@ -195,7 +198,7 @@ fn may_arrive(
     slots: &[u16; 16],
 ) -> Answer
     requires sized { ⌜ Sized (here terms moment period exec deadline share order awake arrived last rk rt wk wt slots) ⌝ }
-    ensures is { λ r. ⌜ (r ≡ arriveAnswerOf (here terms moment (period .entry) (exec .entry) (deadline .entry) (share .entry) (order .entry) (awake .entry) (arrived .entry) (last .entry) (rk .entry) (rt .entry) (wk .entry) (wt .entry) (slots .entry)) task) × (isDone r ≡ true → MayCome (here terms moment (period .entry) (exec .entry) (deadline .entry) (share .entry) (order .entry) (awake .entry) (arrived .entry) (last .entry) (rk .entry) (rt .entry) (wk .entry) (wt .entry) (slots .entry)) task) ⌝ }
+    ensures is { λ r. ⌜ MayArrive (old terms moment period exec deadline share order awake arrived last rk rt wk wt slots) task r ⌝ }
 {
     if !check(
         terms,
@@ -241,7 +244,7 @@ fn may_step(
     slots: &[u16; 16],
 ) -> Answer
     requires sized { ⌜ Sized (here terms moment period exec deadline share order awake arrived last rk rt wk wt slots) ⌝ }
-    ensures is { λ r. ⌜ (r ≡ stepAnswerOf (here terms moment (period .entry) (exec .entry) (deadline .entry) (share .entry) (order .entry) (awake .entry) (arrived .entry) (last .entry) (rk .entry) (rt .entry) (wk .entry) (wt .entry) (slots .entry)) horizon len) × (isDone r ≡ true → Ahead (here terms moment (period .entry) (exec .entry) (deadline .entry) (share .entry) (order .entry) (awake .entry) (arrived .entry) (last .entry) (rk .entry) (rt .entry) (wk .entry) (wt .entry) (slots .entry)) horizon len) ⌝ }
+    ensures is { λ r. ⌜ MayStep (old terms moment period exec deadline share order awake arrived last rk rt wk wt slots) horizon len r ⌝ }
 {
     if !check(
         terms,
@@ -304,12 +307,15 @@ pub fn arrive(s: State, task: u64) -> Arrived
         m: table.m,
         scale: table.scale,
     };
+    let lengths = Lengths {
+        running: running.len,
+        waiting: waiting.len,
+    };
     let moment = Moment {
         now: present,
         going: s.going,
-        end: s.end,
-        running: running.len,
-        waiting: waiting.len,
+        end_tick: s.end,
+        lengths: lengths,
     };
     let answer = may_arrive(
         terms,
@@ -335,11 +341,7 @@ pub fn arrive(s: State, task: u64) -> Arrived
             terms,
             moment,
             (task - 1) as usize,
-            &period,
-            &exec,
-            &deadline,
             &share,
-            &order,
             &mut awake,
             &mut arrived,
             &mut last,
@@ -351,15 +353,16 @@ pub fn arrive(s: State, task: u64) -> Arrived
         );
     }
     let at = r.now;
+    let n = r.lengths;
     let run = Queue {
         keys: rk,
         tasks: rt,
-        len: r.running,
+        len: n.running,
     };
     let wait = Queue {
         keys: wk,
         tasks: wt,
-        len: r.waiting,
+        len: n.waiting,
     };
     let held = Jobs {
         awake: awake,
@@ -370,7 +373,7 @@ pub fn arrive(s: State, task: u64) -> Arrived
         table: table,
         now: at,
         going: r.going,
-        end: r.end,
+        end: r.end_tick,
         jobs: held,
         running: run,
         waiting: wait,
@@ -409,12 +412,15 @@ pub fn step(s: State, horizon: u64, room: &mut [u8]) -> Stepped
         m: table.m,
         scale: table.scale,
     };
+    let lengths = Lengths {
+        running: running.len,
+        waiting: waiting.len,
+    };
     let moment = Moment {
         now: present,
         going: s.going,
-        end: s.end,
-        running: running.len,
-        waiting: waiting.len,
+        end_tick: s.end,
+        lengths: lengths,
     };
     let answer = may_step(
         terms,
@@ -442,12 +448,10 @@ pub fn step(s: State, horizon: u64, room: &mut [u8]) -> Stepped
             moment,
             horizon,
             &period,
-            &exec,
             &deadline,
             &share,
             &order,
             &mut awake,
-            &arrived,
             &last,
             &mut rk,
             &mut rt,
@@ -458,15 +462,16 @@ pub fn step(s: State, horizon: u64, room: &mut [u8]) -> Stepped
         );
     }
     let at = r.now;
+    let n = r.lengths;
     let run = Queue {
         keys: rk,
         tasks: rt,
-        len: r.running,
+        len: n.running,
     };
     let wait = Queue {
         keys: wk,
         tasks: wt,
-        len: r.waiting,
+        len: n.waiting,
     };
     let held = Jobs {
         awake: awake,
@@ -477,7 +482,7 @@ pub fn step(s: State, horizon: u64, room: &mut [u8]) -> Stepped
         table: table,
         now: at,
         going: r.going,
-        end: r.end,
+        end: r.end_tick,
         jobs: held,
         running: run,
         waiting: wait,
@@ -527,12 +532,15 @@ pub fn run(s: State, horizon: u64, room: &mut [u8]) -> Ran
         m: table.m,
         scale: table.scale,
     };
+    let lengths = Lengths {
+        running: running.len,
+        waiting: waiting.len,
+    };
     let moment = Moment {
         now: present,
         going: s.going,
-        end: s.end,
-        running: running.len,
-        waiting: waiting.len,
+        end_tick: s.end,
+        lengths: lengths,
     };
     let answer = may_step(
         terms,
@@ -572,12 +580,10 @@ pub fn run(s: State, horizon: u64, room: &mut [u8]) -> Ran
             r,
             horizon,
             &period,
-            &exec,
             &deadline,
             &share,
             &order,
             &mut awake,
-            &arrived,
             &last,
             &mut rk,
             &mut rt,
@@ -590,15 +596,16 @@ pub fn run(s: State, horizon: u64, room: &mut [u8]) -> Ran
         records += 1;
     }
     let at = r.now;
+    let n = r.lengths;
     let run = Queue {
         keys: rk,
         tasks: rt,
-        len: r.running,
+        len: n.running,
     };
     let wait = Queue {
         keys: wk,
         tasks: wt,
-        len: r.waiting,
+        len: n.waiting,
     };
     let held = Jobs {
         awake: awake,
@@ -609,7 +616,7 @@ pub fn run(s: State, horizon: u64, room: &mut [u8]) -> Ran
         table: table,
         now: at,
         going: r.going,
-        end: r.end,
+        end: r.end_tick,
         jobs: held,
         running: run,
         waiting: wait,

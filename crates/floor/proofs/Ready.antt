@@ -31,7 +31,6 @@ use Rattle.plane.proofs.Passing.{advance-is, next-late, awake-at}
 use Rattle.plane.proofs.Seizing.{c-top, frame-c}
 use Rattle.plane.proofs.Shows.{Crew, Is, run-cond, wait-cond, next-same}
 use Rattle.plane.proofs.Views.{IsState}
-use Rattle.floor.specs.Lent.{cleared}
 use Rattle.floor.specs.Rows.{Came}
 
 -- A WORK THAT FITS
@@ -134,10 +133,6 @@ open-ready s l I tick e whole later small shares rows order =
     amount-in t h =
         let d : e - tick + tick ≡ e = omega arith in
         omega (arith, mul-le-mul-right (e - tick) (shares t h), ap (λ (x : ℕ). x * s .table .scale) d)
-
--- the work of the opening state, from a head with its m, present and end
-pub begun-work : (s : State) (e : ℕ) (w : Work) → w .m ≡ s .table .m → w .now ≡ s .now .0 → w .end ≡ e * s .table .scale → cleared w ≡ workOf (begun s e)
-begun-work s e w a b c i = record { m = a i; now = b i; end = c i; running = cleared w .running; waiting = cleared w .waiting; slots = cleared w .slots }
 
 -- ARRIVING
 -- the search for an idle processor stays inside the slots

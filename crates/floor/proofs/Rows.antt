@@ -12,7 +12,7 @@ use Rattle.ground.proofs.Times.{up-turn, up-end}
 use Rattle.table.specs.declared.Table.{Table}
 use Rattle.plane.specs.declared.Jobs.{Jobs}
 use Rattle.plane.specs.Machine.{shorterAt, limitAt, leastLimit, planeEnd, sleepRow, sleepAll}
-use Rattle.floor.specs.Rows.{rows, jobs, Came}
+use Rattle.floor.specs.Rows.{rows, jobs, Came, CameAt}
 
 -- ONLY SOME COLUMNS ARE LOOKED AT
 pub end-of-rows : (t : Table) (j : Jobs) (tick : ℕ) → planeEnd (rows (t .period) (t .deadline) (t .count)) (jobs (j .awake) (j .last)) tick ≡ planeEnd t j tick
@@ -22,6 +22,10 @@ end-of-rows t j tick = refl
 pub sleep-of-rows : (t : Table) (last : List ℕ) (tick : ℕ) (awake : List Bool) → sleepAll (rows (t .period) (t .deadline) (t .count)) last tick awake ≡ sleepAll t last tick awake
 unfolding sleepAll sleepRow
 sleep-of-rows t last tick awake = refl
+
+-- WHAT A ROW ASKS
+pub came-at : {awake : List Bool} {last : List ℕ} {n tick i : ℕ} → Came awake last n tick → i < n → CameAt awake last tick i
+came-at {i = i} k h = record { inside = omega (arith, k .few); past = k .past i h; small = k .small }
 
 -- THE END
 -- the least of e and the limits from row i on is the plane's end

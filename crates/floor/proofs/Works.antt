@@ -1,20 +1,29 @@
 -- Works, moves of works and amounts are the same by their parts
-use mathlib.Core.Path.{_≡_, _∙_, ap}
+use mathlib.Core.Path.{_≡_, refl, _∙_, ap}
 use mathlib.Core.List.{List}
 use Prim.Native.Nat.{ℕ, _-_}
+use lib.ListN.{set}
 use Rattle.ground.specs.declared.Amount.{Amount}
 use Rattle.ground.specs.declared.Instant.{Instant}
 use Rattle.queue.specs.declared.Queue.{Queue}
-use Rattle.plane.specs.Work.{Work, moved, park, place, giveTop, seizeTop}
+use Rattle.queue.specs.Queues.{pushOf, popOf}
+use Rattle.plane.specs.Work.{Work, moved, restTop, unqueue, giveTop, seizeTop}
 
 pub work-is : (w : Work) {r v q u : Queue} {k l : List ℕ} → r ≡ v → q ≡ u → k ≡ l → moved w r q k ≡ moved w v u l
 work-is w a b c i = moved w (a i) (b i) (c i)
 
-pub park-is : {t u a b : ℕ} {w v : Work} → t ≡ u → a ≡ b → w ≡ v → park t a w ≡ park u b v
-park-is x y z i = park (x i) (y i) (z i)
+-- a push of the same key and task
+pub pushed : (q : Queue) {r : Queue} {k l t u : ℕ} → r ≡ pushOf q k t → k ≡ l → t ≡ u → r ≡ pushOf q l u
+pushed q e x y = e ∙ (λ i. pushOf q (x i) (y i))
 
-pub place-is : {p r t u a b : ℕ} {w v : Work} → p ≡ r → t ≡ u → a ≡ b → w ≡ v → place p t a w ≡ place r u b v
-place-is o x y z i = place (o i) (x i) (y i) (z i)
+-- the two moves that take a task out, by what becomes of its queue
+pub rest-is : (w : Work) {p o : ℕ} {r : Queue} {l : List ℕ} → (r ≡ popOf (w .running)) × (l ≡ set (w .slots) p 0) → p ≡ o → moved w r (w .waiting) l ≡ restTop o w
+unfolding restTop
+rest-is w e z = work-is w (e .0) refl (e .1 ∙ ap (λ (x : ℕ). set (w .slots) x 0) z)
+
+pub unqueue-is : (w : Work) {q : Queue} → q ≡ popOf (w .waiting) → moved w (w .running) q (w .slots) ≡ unqueue w
+unfolding unqueue
+unqueue-is w e = work-is w refl e refl
 
 pub give-is : {p r : ℕ} {w v : Work} → p ≡ r → w ≡ v → giveTop p w ≡ giveTop r v
 give-is o z i = giveTop (o i) (z i)

@@ -1,38 +1,42 @@
--- A WORK THAT LIES IN A HEAD AND FIVE LENT ARRAYS
+-- A WORK THAT LIES IN FIVE LENT ARRAYS
 use mathlib.Core.List.{List}
 use Prim.Native.Nat.{ℕ}
 use denote.Ref.{RefT, now}
 use Rattle.queue.specs.Lent.{Lent, at}
 use Rattle.queue.specs.Queues.{emptyQueue}
-use Rattle.plane.specs.Work.{Work, moved}
+use Rattle.plane.specs.Work.{Work}
 use Rattle.plane.specs.Fit.{Fit, Yielding}
 use Rattle.plane.specs.Machine.{noSlots}
-use Rattle.floor.specs.declared.Head.{Head}
+use Rattle.floor.specs.declared.Plane.{Plane}
+use Rattle.floor.specs.declared.Lengths.{Lengths}
 
 -- a lent array
 abbrev pub Array : Type 0
 Array = RefT (List ℕ)
 
--- the work of a head, the running queue's keys and tasks, the waiting queue's, and the slots
-abbrev pub work : Head → List ℕ → List ℕ → List ℕ → List ℕ → List ℕ → Work
-work h rk rt wk wt slots =
-    record { m = h .m; now = h .now .0; end = h .end .0; running = at rk rt (h .running); waiting = at wk wt (h .waiting); slots = slots }
+-- a work by its parts: m, the present, the end, how many run and wait, the running queue's keys and tasks, the waiting queue's, the slots
+abbrev pub workAt : ℕ → ℕ → ℕ → Lengths → List ℕ → List ℕ → List ℕ → List ℕ → List ℕ → Work
+workAt m t e n rk rt wk wt slots = record { m = m; now = t; end = e; running = at rk rt (n .running); waiting = at wk wt (n .waiting); slots = slots }
+
+-- the same of a plane
+abbrev pub work : Plane → Lengths → List ℕ → List ℕ → List ℕ → List ℕ → List ℕ → Work
+work p n rk rt wk wt slots = workAt (p .m) (p .now .0) (p .close .0) n rk rt wk wt slots
 
 -- the work that lies there, for a requires
-abbrev pub here : Head → Array → Array → Array → Array → Array → Work
-here h rk rt wk wt slots = work h (now rk) (now rt) (now wk) (now wt) (now slots)
+abbrev pub here : Plane → Lengths → Array → Array → Array → Array → Array → Work
+here p n rk rt wk wt slots = work p n (now rk) (now rt) (now wk) (now wt) (now slots)
 
 -- the work as the function is called
-abbrev pub old : Head → Lent → Lent → Lent → Lent → Lent → Work
-old h rk rt wk wt slots = here h (rk .entry) (rt .entry) (wk .entry) (wt .entry) (slots .entry)
+abbrev pub old : Plane → Lengths → Lent → Lent → Lent → Lent → Lent → Work
+old p n rk rt wk wt slots = here p n (rk .entry) (rt .entry) (wk .entry) (wt .entry) (slots .entry)
 
 -- the work as the function returns
-abbrev pub new : Head → Lent → Lent → Lent → Lent → Lent → Work
-new h rk rt wk wt slots = here h (rk .exit) (rt .exit) (wk .exit) (wt .exit) (slots .exit)
+abbrev pub new : Plane → Lengths → Lent → Lent → Lent → Lent → Lent → Work
+new p n rk rt wk wt slots = here p n (rk .exit) (rt .exit) (wk .exit) (wt .exit) (slots .exit)
 
--- the same with nobody in it: every place of the queues and the slots is 0
-abbrev pub cleared : Work → Work
-cleared w = moved w emptyQueue emptyQueue noSlots
+-- a plane with nobody in it: every place of the queues and the slots is 0
+abbrev pub cleared : Plane → Work
+cleared p = record { m = p .m; now = p .now .0; end = p .close .0; running = emptyQueue; waiting = emptyQueue; slots = noSlots }
 
 -- all C events find what they need
 pub record Critical (w : Work) : Type 0 where

@@ -21,3 +21,9 @@ pub record Came (awake : List Bool) (last : List ℕ) (n tick : ℕ) : Type 0 wh
   pub few : n ≤ 128
   pub past : (i : ℕ) → i < n → getD awake i false ≡ true → getD last i 0 ≤ tick
   pub small : tick ≤ 18446744069414584320
+
+-- the same of row i
+pub record CameAt (awake : List Bool) (last : List ℕ) (tick i : ℕ) : Type 0 where
+  pub inside : i < 128
+  pub past : getD awake i false ≡ true → getD last i 0 ≤ tick
+  pub small : tick ≤ 18446744069414584320

@@ -1,101 +1,79 @@
-// The work of a plane in place: the queues' arrays and the slots are lent, the scalars come and go in a head.
+// The work of a plane in place: the queues' arrays and the slots are lent, and the queues' new lengths come back.
 ghost use mathlib.Core.Path.{_≡_};
 ghost use mathlib.Core.List.{List};
 ghost use Prim.Native.Nat.{ℕ, _+_, _-_, _*_, min, _≤_, _<_};
-ghost use lib.ListN.{getD, take};
-ghost use Rattle.plane.specs.Work.{seat, firstIdle, restTop, unqueue, park, place, giveTop, bOne, bAll, due, seizeTop, cOne, cAll, eventsOf, orTop, nextOf, enter, enterRow, enterAll, joins};
+ghost use lib.ListN.{getD, set, take};
+ghost use Rattle.queue.specs.Lent as Queues;
+ghost use Rattle.queue.specs.Queues.{pushOf, popOf};
+ghost use Rattle.plane.specs.Work.{seat, firstIdle, giveTop, bOne, bAll, due, seizeTop, cOne, cAll, eventsOf, orTop, nextOf, enter, enterRow, enterAll, joins};
 ghost use Rattle.plane.specs.Machine.{noSlots, shorterAt, limitAt, planeEnd, sleepRow, sleepAll};
 ghost use Rattle.plane.specs.Fit.{Fit, Yields, Eventful, Joining, Enters, Opens};
-ghost use Rattle.floor.specs.Lent.{here, old, new, work, cleared, Critical};
-ghost use Rattle.floor.specs.Rows.{rows, jobs, Came};
+ghost use Rattle.floor.specs.Lent.{workAt, here, old, new, cleared, Critical};
+ghost use Rattle.floor.specs.Rows.{rows, jobs, Came, CameAt};
 use ground::Amount;
 use ground::Instant;
 
-// m: how many processors; now, end: the present and the plane's end; running, waiting: how many are in each queue.
-pub struct Head {
+// What stands still while the events of an instant happen: how many processors, the present, the plane's end.
+pub struct Plane {
     pub m: usize,
     pub now: Instant,
-    pub end: Instant,
+    pub close: Instant,
+}
+
+// How many run and how many wait.
+pub struct Lengths {
     pub running: usize,
     pub waiting: usize,
 }
 
 // MOVES
 
-// The top of the running leaves its queue, and place p of the slots is idle.
+// The top of the n that run leaves its queue, and place p of the slots is idle. The new length.
 fn rest_top(
-    head: Head,
     rk: &mut [u64; 128],
     rt: &mut [u16; 128],
-    wk: &mut [u64; 128],
-    wt: &mut [u16; 128],
+    n: usize,
     slots: &mut [u16; 16],
     p: usize,
-) -> Head
-    requires held { ⌜ (0 < head .running) × (head .running ≤ 128) × (p < 16) ⌝ }
-    ensures is { λ r. ⌜ new r rk rt wk wt slots ≡ restTop p (old head rk rt wk wt slots) ⌝ }
+) -> usize
+    requires held { ⌜ (0 < n) × (n ≤ 128) × (p < 16) ⌝ }
+    ensures is { λ r. ⌜ (Queues.new rk rt r ≡ popOf (Queues.old rk rt n)) × (now (slots .exit) ≡ set (now (slots .entry)) p 0) ⌝ }
 {
-    let mut h = head;
     slots[p] = 0;
-    h.running = queue::pop(rk, rt, h.running);
-    h
+    queue::pop(rk, rt, n)
 }
 
-// The top of the waiting leaves its queue.
-fn unqueue(
-    head: Head,
-    rk: &mut [u64; 128],
-    rt: &mut [u16; 128],
-    wk: &mut [u64; 128],
-    wt: &mut [u16; 128],
-    slots: &mut [u16; 16],
-) -> Head
-    requires held { ⌜ (0 < head .waiting) × (head .waiting ≤ 128) ⌝ }
-    ensures is { λ r. ⌜ new r rk rt wk wt slots ≡ unqueue (old head rk rt wk wt slots) ⌝ }
-{
-    let mut h = head;
-    h.waiting = queue::pop(wk, wt, h.waiting);
-    h
-}
-
-// A task in no queue waits with an amount.
+// A task in no queue waits with an amount. The new length.
 fn park(
-    head: Head,
-    rk: &mut [u64; 128],
-    rt: &mut [u16; 128],
     wk: &mut [u64; 128],
     wt: &mut [u16; 128],
-    slots: &mut [u16; 16],
+    n: usize,
+    close: Instant,
     task: u16,
     a: Amount,
-) -> Head
-    requires room { ⌜ (head .waiting < 128) × (a .0 ≤ head .end .0) ⌝ }
-    ensures is { λ r. ⌜ new r rk rt wk wt slots ≡ park task (a .0) (old head rk rt wk wt slots) ⌝ }
+) -> usize
+    requires room { ⌜ (n < 128) × (a .0 ≤ close .0) ⌝ }
+    ensures is { λ r. ⌜ Queues.new wk wt r ≡ pushOf (Queues.old wk wt n) (close .0 - a .0) task ⌝ }
 {
-    let mut h = head;
-    h.waiting = queue::push(wk, wt, h.waiting, ground::sooner(h.end, a), task);
-    h
+    queue::push(wk, wt, n, ground::sooner(close, a), task)
 }
 
-// A task in no queue runs on the idle place p of the slots with an amount.
+// A task in no queue runs on the idle place p of the slots with an amount. The new length.
 fn place(
-    head: Head,
     rk: &mut [u64; 128],
     rt: &mut [u16; 128],
-    wk: &mut [u64; 128],
-    wt: &mut [u16; 128],
+    n: usize,
     slots: &mut [u16; 16],
     p: usize,
+    present: Instant,
     task: u16,
     a: Amount,
-) -> Head
-    requires room { ⌜ (head .running < 128) × (p < 16) × (head .now .0 + a .0 < 18446744073709551616) ⌝ }
-    ensures is { λ r. ⌜ new r rk rt wk wt slots ≡ place p task (a .0) (old head rk rt wk wt slots) ⌝ }
+) -> usize
+    requires room { ⌜ (n < 128) × (p < 16) × (present .0 + a .0 < 18446744073709551616) ⌝ }
+    ensures is { λ r. ⌜ (Queues.new rk rt r ≡ pushOf (Queues.old rk rt n) (present .0 + a .0) task) × (now (slots .exit) ≡ set (now (slots .entry)) p task) ⌝ }
 {
-    let mut h = head;
     slots[p] = task;
-    h.running = queue::push(rk, rt, h.running, ground::later(h.now, a), task);
-    h
+    queue::push(rk, rt, n, ground::later(present, a), task)
 }
 
 // PROCESSORS
@@ -153,41 +131,51 @@ pub fn clear_slots(slots: &mut [u16; 16])
 
 // The idle place p goes to the top of the waiting, if any waits.
 fn give_top(
-    head: Head,
+    plane: Plane,
+    n: Lengths,
     rk: &mut [u64; 128],
     rt: &mut [u16; 128],
     wk: &mut [u64; 128],
     wt: &mut [u16; 128],
     slots: &mut [u16; 16],
     p: usize,
-) -> Head
-    requires fit { ⌜ (p < 16) × Fit (here head rk rt wk wt slots) ⌝ }
-    ensures is { λ r. ⌜ new r rk rt wk wt slots ≡ giveTop p (old head rk rt wk wt slots) ⌝ }
+) -> Lengths
+    requires fit { ⌜ (p < 16) × Fit (here plane n rk rt wk wt slots) ⌝ }
+    ensures is { λ r. ⌜ new plane r rk rt wk wt slots ≡ giveTop p (old plane n rk rt wk wt slots) ⌝ }
 {
-    if 0 < head.waiting {
+    if 0 < n.waiting {
         let task = queue::least_task(wt);
-        let a = ground::between(queue::least_key(wk), head.end);
-        let h = unqueue(head, rk, rt, wk, wt, slots);
-        return place(h, rk, rt, wk, wt, slots, p, task, a);
+        let a = ground::between(queue::least_key(wk), plane.close);
+        let waiting = queue::pop(wk, wt, n.waiting);
+        let running = place(rk, rt, n.running, slots, p, plane.now, task, a);
+        return Lengths {
+            running: running,
+            waiting: waiting,
+        };
     }
-    head
+    n
 }
 
 // A B event: the top of the running rests, and its processor goes on.
 fn b_one(
-    head: Head,
+    plane: Plane,
+    n: Lengths,
     rk: &mut [u64; 128],
     rt: &mut [u16; 128],
     wk: &mut [u64; 128],
     wt: &mut [u16; 128],
     slots: &mut [u16; 16],
-) -> Head
-    requires fit { ⌜ (0 < head .running) × Fit (here head rk rt wk wt slots) ⌝ }
-    ensures is { λ r. ⌜ new r rk rt wk wt slots ≡ bOne (old head rk rt wk wt slots) ⌝ }
+) -> Lengths
+    requires fit { ⌜ (0 < n .running) × Fit (here plane n rk rt wk wt slots) ⌝ }
+    ensures is { λ r. ⌜ new plane r rk rt wk wt slots ≡ bOne (old plane n rk rt wk wt slots) ⌝ }
 {
     let p = top_place(rt, slots);
-    let h = rest_top(head, rk, rt, wk, wt, slots, p);
-    give_top(h, rk, rt, wk, wt, slots, p)
+    let running = rest_top(rk, rt, n.running, slots, p);
+    let rested = Lengths {
+        running: running,
+        waiting: n.waiting,
+    };
+    give_top(plane, rested, rk, rt, wk, wt, slots, p)
 }
 
 // Has the least of n keys come due?
@@ -202,26 +190,28 @@ fn is_due(keys: &[u64; 128], n: usize, present: Instant) -> bool
 
 // All B events due.
 fn b_all(
-    head: Head,
+    plane: Plane,
+    n: Lengths,
     rk: &mut [u64; 128],
     rt: &mut [u16; 128],
     wk: &mut [u64; 128],
     wt: &mut [u16; 128],
     slots: &mut [u16; 16],
-) -> Head
-    requires fit { ⌜ Fit (here head rk rt wk wt slots) ⌝ }
-    ensures is { λ r. ⌜ new r rk rt wk wt slots ≡ bAll (old head rk rt wk wt slots) ⌝ }
+) -> Lengths
+    requires fit { ⌜ Fit (here plane n rk rt wk wt slots) ⌝ }
+    ensures is { λ r. ⌜ new plane r rk rt wk wt slots ≡ bAll (old plane n rk rt wk wt slots) ⌝ }
 {
-    let mut h = head;
-    while is_due(rk, h.running, h.now) {
-        h = b_one(h, rk, rt, wk, wt, slots);
+    let mut k = n;
+    while is_due(rk, k.running, plane.now) {
+        k = b_one(plane, k, rk, rt, wk, wt, slots);
     }
-    h
+    k
 }
 
 // A task in no queue takes the processor of the top of the running, which waits.
 fn seize_top(
-    head: Head,
+    plane: Plane,
+    n: Lengths,
     rk: &mut [u64; 128],
     rt: &mut [u16; 128],
     wk: &mut [u64; 128],
@@ -229,74 +219,85 @@ fn seize_top(
     slots: &mut [u16; 16],
     task: u16,
     a: Amount,
-) -> Head
-    requires fit { ⌜ (head .now .0 + a .0 ≤ head .end .0) × Yields (here head rk rt wk wt slots) × Fit (here head rk rt wk wt slots) ⌝ }
-    ensures is { λ r. ⌜ new r rk rt wk wt slots ≡ seizeTop task (a .0) (old head rk rt wk wt slots) ⌝ }
+) -> Lengths
+    requires fit { ⌜ (plane .now .0 + a .0 ≤ plane .close .0) × Yields (here plane n rk rt wk wt slots) × Fit (here plane n rk rt wk wt slots) ⌝ }
+    ensures is { λ r. ⌜ new plane r rk rt wk wt slots ≡ seizeTop task (a .0) (old plane n rk rt wk wt slots) ⌝ }
 {
     let out = queue::least_task(rt);
-    let left = ground::between(head.now, queue::least_key(rk));
+    let left = ground::between(plane.now, queue::least_key(rk));
     let p = top_place(rt, slots);
-    let rested = rest_top(head, rk, rt, wk, wt, slots, p);
-    let parked = park(rested, rk, rt, wk, wt, slots, out, left);
-    place(parked, rk, rt, wk, wt, slots, p, task, a)
+    let rested = rest_top(rk, rt, n.running, slots, p);
+    let waiting = park(wk, wt, n.waiting, plane.close, out, left);
+    let running = place(rk, rt, rested, slots, p, plane.now, task, a);
+    Lengths {
+        running: running,
+        waiting: waiting,
+    }
 }
 
 // A C event: the top of the waiting takes the processor of the top of the running.
 fn c_one(
-    head: Head,
+    plane: Plane,
+    n: Lengths,
     rk: &mut [u64; 128],
     rt: &mut [u16; 128],
     wk: &mut [u64; 128],
     wt: &mut [u16; 128],
     slots: &mut [u16; 16],
-) -> Head
-    requires fit { ⌜ (0 < head .waiting) × Yields (here head rk rt wk wt slots) × Fit (here head rk rt wk wt slots) ⌝ }
-    ensures is { λ r. ⌜ new r rk rt wk wt slots ≡ cOne (old head rk rt wk wt slots) ⌝ }
+) -> Lengths
+    requires fit { ⌜ (0 < n .waiting) × Yields (here plane n rk rt wk wt slots) × Fit (here plane n rk rt wk wt slots) ⌝ }
+    ensures is { λ r. ⌜ new plane r rk rt wk wt slots ≡ cOne (old plane n rk rt wk wt slots) ⌝ }
 {
     let task = queue::least_task(wt);
-    let a = ground::between(queue::least_key(wk), head.end);
-    let h = unqueue(head, rk, rt, wk, wt, slots);
-    seize_top(h, rk, rt, wk, wt, slots, task, a)
+    let a = ground::between(queue::least_key(wk), plane.close);
+    let waiting = queue::pop(wk, wt, n.waiting);
+    let left = Lengths {
+        running: n.running,
+        waiting: waiting,
+    };
+    seize_top(plane, left, rk, rt, wk, wt, slots, task, a)
 }
 
 // All C events due.
 fn c_all(
-    head: Head,
+    plane: Plane,
+    n: Lengths,
     rk: &mut [u64; 128],
     rt: &mut [u16; 128],
     wk: &mut [u64; 128],
     wt: &mut [u16; 128],
     slots: &mut [u16; 16],
-) -> Head
-    requires fit { ⌜ Critical (here head rk rt wk wt slots) ⌝ }
-    ensures is { λ r. ⌜ new r rk rt wk wt slots ≡ cAll (old head rk rt wk wt slots) ⌝ }
+) -> Lengths
+    requires fit { ⌜ Critical (here plane n rk rt wk wt slots) ⌝ }
+    ensures is { λ r. ⌜ new plane r rk rt wk wt slots ≡ cAll (old plane n rk rt wk wt slots) ⌝ }
 {
-    let mut h = head;
-    let mut n = h.waiting;
-    while 0 < n {
-        if !is_due(wk, h.waiting, h.now) {
-            return h;
+    let mut k = n;
+    let mut left = k.waiting;
+    while 0 < left {
+        if !is_due(wk, k.waiting, plane.now) {
+            return k;
         }
-        h = c_one(h, rk, rt, wk, wt, slots);
-        n -= 1;
+        k = c_one(plane, k, rk, rt, wk, wt, slots);
+        left -= 1;
     }
-    h
+    k
 }
 
 // The events of the present: all B events due, then all C events due.
 pub fn events(
-    head: Head,
+    plane: Plane,
+    n: Lengths,
     rk: &mut [u64; 128],
     rt: &mut [u16; 128],
     wk: &mut [u64; 128],
     wt: &mut [u16; 128],
     slots: &mut [u16; 16],
-) -> Head
-    requires fit { ⌜ Eventful (here head rk rt wk wt slots) ⌝ }
-    ensures is { λ r. ⌜ new r rk rt wk wt slots ≡ eventsOf (old head rk rt wk wt slots) ⌝ }
+) -> Lengths
+    requires fit { ⌜ Eventful (here plane n rk rt wk wt slots) ⌝ }
+    ensures is { λ r. ⌜ new plane r rk rt wk wt slots ≡ eventsOf (old plane n rk rt wk wt slots) ⌝ }
 {
-    let h = b_all(head, rk, rt, wk, wt, slots);
-    c_all(h, rk, rt, wk, wt, slots)
+    let k = b_all(plane, n, rk, rt, wk, wt, slots);
+    c_all(plane, k, rk, rt, wk, wt, slots)
 }
 
 // THE NEXT INSTANT
@@ -321,29 +322,28 @@ fn or_top(keys: &[u64; 128], n: usize, other: Instant) -> Instant
     other
 }
 
-// The next instant at which something happens in the plane, or the stop: whatever the tasks and the slots are.
-pub fn next_instant(head: Head, rk: &[u64; 128], wk: &[u64; 128], stop: Instant) -> Instant
-    ensures is { λ r. ⌜ ((rt wt slots : List ℕ) → r ≡ record { 0 = nextOf (work head (now (rk .entry)) rt (now (wk .entry)) wt slots) (stop .0) }) ⌝ }
+// The next instant at which something happens in the plane, or the stop: whatever m, the present, the tasks and the slots are.
+pub fn next_instant(
+    close: Instant,
+    n: Lengths,
+    rk: &[u64; 128],
+    wk: &[u64; 128],
+    stop: Instant,
+) -> Instant
+    ensures is { λ r. ⌜ ((m t : ℕ) (rt wt slots : List ℕ) → r ≡ record { 0 = nextOf (workAt m t (close .0) n (now (rk .entry)) rt (now (wk .entry)) wt slots) (stop .0) }) ⌝ }
 {
-    let end = Instant(lesser(head.end.0, stop.0));
-    or_top(rk, head.running, or_top(wk, head.waiting, end))
+    let end = Instant(lesser(close.0, stop.0));
+    or_top(rk, n.running, or_top(wk, n.waiting, end))
 }
 
 // OPENING
-
-// A number of ticks of the table.
-fn wide(x: u32) -> u64
-    ensures is { λ r. ⌜ (r ≡ x) × (r < 4294967296) ⌝ }
-{
-    x as u64
-}
 
 // The shorter of the period and the deadline of row i.
 fn shorter(period: &[u32; 128], deadline: &[u32; 128], i: usize) -> u64
     requires inside { ⌜ i < 128 ⌝ }
     ensures is { λ r. ⌜ (r < 4294967296) × ((n : ℕ) → r ≡ shorterAt (rows (now (period .entry)) (now (deadline .entry)) n) i) ⌝ }
 {
-    lesser(wide(period[i]), wide(deadline[i]))
+    table::wide(table::shorter(period[i], deadline[i]))
 }
 
 // The limit of row i to a plane that opens at a tick: from the last arrival of an awake task, from the tick for one asleep.
@@ -352,12 +352,11 @@ fn limit(
     deadline: &[u32; 128],
     awake: &[bool; 128],
     last: &[u64; 128],
-    count: usize,
     tick: u64,
     i: usize,
 ) -> u64
-    requires came { ⌜ (i < count) × Came (now awake) (now last) count tick ⌝ }
-    ensures is { λ r. ⌜ r ≡ limitAt (rows (now (period .entry)) (now (deadline .entry)) count) (jobs (now (awake .entry)) (now (last .entry))) tick i ⌝ }
+    requires came { ⌜ CameAt (now awake) (now last) tick i ⌝ }
+    ensures is { λ r. ⌜ ((n : ℕ) → r ≡ limitAt (rows (now (period .entry)) (now (deadline .entry)) n) (jobs (now (awake .entry)) (now (last .entry))) tick i) ⌝ }
 {
     let q = shorter(period, deadline, i);
     if awake[i] {
@@ -378,10 +377,10 @@ pub fn plane_end(
     requires came { ⌜ (0 < count) × Came (now awake) (now last) count tick ⌝ }
     ensures is { λ r. ⌜ r ≡ planeEnd (rows (now (period .entry)) (now (deadline .entry)) count) (jobs (now (awake .entry)) (now (last .entry))) tick ⌝ }
 {
-    let mut e = limit(period, deadline, awake, last, count, tick, 0);
+    let mut e = limit(period, deadline, awake, last, tick, 0);
     let mut i = 1;
     while i < count {
-        e = lesser(e, limit(period, deadline, awake, last, count, tick, i));
+        e = lesser(e, limit(period, deadline, awake, last, tick, i));
         i += 1;
     }
     e
@@ -389,7 +388,8 @@ pub fn plane_end(
 
 // A task with an amount: it runs on the next processor while there is one, else waits.
 fn enter(
-    head: Head,
+    plane: Plane,
+    n: Lengths,
     rk: &mut [u64; 128],
     rt: &mut [u16; 128],
     wk: &mut [u64; 128],
@@ -397,19 +397,28 @@ fn enter(
     slots: &mut [u16; 16],
     task: u16,
     a: Amount,
-) -> Head
-    requires fit { ⌜ Enters (here head rk rt wk wt slots) (a .0) ⌝ }
-    ensures is { λ r. ⌜ new r rk rt wk wt slots ≡ enter task (a .0) (old head rk rt wk wt slots) ⌝ }
+) -> Lengths
+    requires fit { ⌜ Enters (here plane n rk rt wk wt slots) (a .0) ⌝ }
+    ensures is { λ r. ⌜ new plane r rk rt wk wt slots ≡ enter task (a .0) (old plane n rk rt wk wt slots) ⌝ }
 {
-    if head.running < head.m {
-        return place(head, rk, rt, wk, wt, slots, head.running, task, a);
+    if n.running < plane.m {
+        let running = place(rk, rt, n.running, slots, n.running, plane.now, task, a);
+        return Lengths {
+            running: running,
+            waiting: n.waiting,
+        };
     }
-    park(head, rk, rt, wk, wt, slots, task, a)
+    let waiting = park(wk, wt, n.waiting, plane.close, task, a);
+    Lengths {
+        running: n.running,
+        waiting: waiting,
+    }
 }
 
 // The task in a row of the table enters, if awake, with its share of the plane's length in ticks.
 fn enter_row(
-    head: Head,
+    plane: Plane,
+    n: Lengths,
     rk: &mut [u64; 128],
     rt: &mut [u16; 128],
     wk: &mut [u64; 128],
@@ -419,21 +428,21 @@ fn enter_row(
     share: &[u64; 128],
     len: u64,
     row: u16,
-) -> Head
-    requires fit { ⌜ (row < 128) × Enters (here head rk rt wk wt slots) (getD (now share) row 0 * len) ⌝ }
-    ensures is { λ r. ⌜ new r rk rt wk wt slots ≡ enterRow (now (awake .entry)) (now (share .entry)) len (old head rk rt wk wt slots) row ⌝ }
+) -> Lengths
+    requires fit { ⌜ (row < 128) × Enters (here plane n rk rt wk wt slots) (getD (now share) row 0 * len) ⌝ }
+    ensures is { λ r. ⌜ new plane r rk rt wk wt slots ≡ enterRow (now (awake .entry)) (now (share .entry)) len (old plane n rk rt wk wt slots) row ⌝ }
 {
     let i = row as usize;
     if !awake[i] {
-        return head;
+        return n;
     }
     let a = Amount(share[i] * len);
-    enter(head, rk, rt, wk, wt, slots, row + 1, a)
+    enter(plane, n, rk, rt, wk, wt, slots, row + 1, a)
 }
 
-// The awake tasks enter, in the order of the first count rows.
-fn enter_all(
-    head: Head,
+// A plane opens: queues and slots are cleared, and the awake tasks enter in the order of the first count rows.
+pub fn open_plane(
+    plane: Plane,
     rk: &mut [u64; 128],
     rt: &mut [u16; 128],
     wk: &mut [u64; 128],
@@ -444,56 +453,23 @@ fn enter_all(
     order: &[u16; 128],
     count: usize,
     len: u64,
-) -> Head
-    requires fit { ⌜ Opens (here head rk rt wk wt slots) (now order) (now share) count len ⌝ }
-    ensures is { λ r. ⌜ new r rk rt wk wt slots ≡ enterAll (now (awake .entry)) (now (share .entry)) len (take count (now (order .entry))) (old head rk rt wk wt slots) ⌝ }
+) -> Lengths
+    requires fit { ⌜ Opens (cleared plane) (now order) (now share) count len ⌝ }
+    ensures is { λ r. ⌜ new plane r rk rt wk wt slots ≡ enterAll (now (awake .entry)) (now (share .entry)) len (take count (now (order .entry))) (cleared plane) ⌝ }
 {
-    let mut h = head;
+    clear_slots(slots);
+    let running = queue::clear(rk, rt);
+    let waiting = queue::clear(wk, wt);
+    let mut n = Lengths {
+        running: running,
+        waiting: waiting,
+    };
     let mut i = 0;
     while i < count {
-        h = enter_row(h, rk, rt, wk, wt, slots, awake, share, len, order[i]);
+        n = enter_row(plane, n, rk, rt, wk, wt, slots, awake, share, len, order[i]);
         i += 1;
     }
-    h
-}
-
-// Both queues and the slots are cleared.
-fn begin_plane(
-    head: Head,
-    rk: &mut [u64; 128],
-    rt: &mut [u16; 128],
-    wk: &mut [u64; 128],
-    wt: &mut [u16; 128],
-    slots: &mut [u16; 16],
-) -> Head
-    ensures is { λ r. ⌜ new r rk rt wk wt slots ≡ cleared (old head rk rt wk wt slots) ⌝ }
-{
-    let mut h = head;
-    clear_slots(slots);
-    h.running = queue::clear(rk, rt);
-    h.waiting = queue::clear(wk, wt);
-    h
-}
-
-// A plane opens: everything is cleared, and the awake tasks enter in the order of the first count rows.
-pub fn open_plane(
-    head: Head,
-    rk: &mut [u64; 128],
-    rt: &mut [u16; 128],
-    wk: &mut [u64; 128],
-    wt: &mut [u16; 128],
-    slots: &mut [u16; 16],
-    awake: &[bool; 128],
-    share: &[u64; 128],
-    order: &[u16; 128],
-    count: usize,
-    len: u64,
-) -> Head
-    requires fit { ⌜ Opens (cleared (here head rk rt wk wt slots)) (now order) (now share) count len ⌝ }
-    ensures is { λ r. ⌜ new r rk rt wk wt slots ≡ enterAll (now (awake .entry)) (now (share .entry)) len (take count (now (order .entry))) (cleared (old head rk rt wk wt slots)) ⌝ }
-{
-    let h = begin_plane(head, rk, rt, wk, wt, slots);
-    enter_all(h, rk, rt, wk, wt, slots, awake, share, order, count, len)
+    n
 }
 
 // CLOSING
@@ -504,12 +480,11 @@ fn sleep_row(
     deadline: &[u32; 128],
     awake: &mut [bool; 128],
     last: &[u64; 128],
-    count: usize,
     tick: u64,
     i: usize,
 )
-    requires came { ⌜ (i < count) × Came (now awake) (now last) count tick ⌝ }
-    ensures is { λ _. ⌜ now (awake .exit) ≡ sleepRow (rows (now (period .entry)) (now (deadline .entry)) count) (now (last .entry)) tick (now (awake .entry)) i ⌝ }
+    requires came { ⌜ CameAt (now awake) (now last) tick i ⌝ }
+    ensures is { λ _. ⌜ ((n : ℕ) → now (awake .exit) ≡ sleepRow (rows (now (period .entry)) (now (deadline .entry)) n) (now (last .entry)) tick (now (awake .entry)) i) ⌝ }
 {
     if awake[i] {
         if last[i] + shorter(period, deadline, i) == tick {
@@ -532,7 +507,7 @@ pub fn sleep_all(
 {
     let mut i = 0;
     while i < count {
-        sleep_row(period, deadline, awake, last, count, tick, i);
+        sleep_row(period, deadline, awake, last, tick, i);
         i += 1;
     }
 }
@@ -541,7 +516,8 @@ pub fn sleep_all(
 
 // A task in no queue joins the open plane with an amount: on the lowest idle processor, else it waits, if its share is below the scale, else takes a processor.
 pub fn join(
-    head: Head,
+    plane: Plane,
+    n: Lengths,
     rk: &mut [u64; 128],
     rt: &mut [u16; 128],
     wk: &mut [u64; 128],
@@ -550,16 +526,24 @@ pub fn join(
     task: u16,
     a: Amount,
     below: bool,
-) -> Head
-    requires fit { ⌜ Joining (here head rk rt wk wt slots) (a .0) ⌝ }
-    ensures is { λ r. ⌜ new r rk rt wk wt slots ≡ joins (firstIdle (head .m) (now (slots .entry))) task (a .0) below (old head rk rt wk wt slots) ⌝ }
+) -> Lengths
+    requires fit { ⌜ Joining (here plane n rk rt wk wt slots) (a .0) ⌝ }
+    ensures is { λ r. ⌜ new plane r rk rt wk wt slots ≡ joins (firstIdle (plane .m) (now (slots .entry))) task (a .0) below (old plane n rk rt wk wt slots) ⌝ }
 {
-    let p = lowest_idle(slots, head.m);
+    let p = lowest_idle(slots, plane.m);
     if p == 0 {
         if below {
-            return park(head, rk, rt, wk, wt, slots, task, a);
+            let waiting = park(wk, wt, n.waiting, plane.close, task, a);
+            return Lengths {
+                running: n.running,
+                waiting: waiting,
+            };
         }
-        return seize_top(head, rk, rt, wk, wt, slots, task, a);
+        return seize_top(plane, n, rk, rt, wk, wt, slots, task, a);
     }
-    place(head, rk, rt, wk, wt, slots, p - 1, task, a)
+    let running = place(rk, rt, n.running, slots, p - 1, plane.now, task, a);
+    Lengths {
+        running: running,
+        waiting: n.waiting,
+    }
 }

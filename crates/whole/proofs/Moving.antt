@@ -28,7 +28,7 @@ use Rattle.plane.proofs.Views.{IsState, sound-is}
 use Rattle.floor.specs.Rows.{Came}
 use Rattle.floor.proofs.Ready.{events-ready, came-ready}
 use Rattle.whole.specs.Whole.{Whole, Settles}
-use Rattle.whole.proofs.Keeping.{can-step}
+use Rattle.whole.proofs.Keeping.{can-step, opened-table}
 use Rattle.whole.proofs.Opening.{end-small, instant-small}
 use Rattle.rules.specs.Bounds.{clock}
 
@@ -90,8 +90,8 @@ pub opened-terms : (s : State) → Whole s → (openedOf s .table ≡ s .table) 
 opened-terms s W = let O = opened-view s (W .sound) (can-step s W) in (O .table, O .now)
 
 -- from the opened state to the next instant is a step
-pub moved-from : (s : State) (h : ℕ) (o : State) → o ≡ openedOf s → Whole s → moveTo o (nextOf (workOf o) (h * s .table .scale)) ≡ movedOf s h
+pub moved-from : (s : State) (h : ℕ) (o : State) → o ≡ openedOf s → moveTo o (nextOf (workOf o) (h * s .table .scale)) ≡ movedOf s h
 unfolding movedOf
-moved-from s h o e W =
+moved-from s h o e =
     ap (λ (k : State). moveTo k (nextOf (workOf k) (h * s .table .scale))) e
-    ∙ ap (λ (n : ℕ). moveTo (openedOf s) (nextOf (workOf (openedOf s)) (h * n))) (sym (ap (λ (t : Table). t .scale) (opened-terms s W .0)))
+    ∙ ap (λ (n : ℕ). moveTo (openedOf s) (nextOf (workOf (openedOf s)) (h * n))) (sym (ap (λ (t : Table). t .scale) (opened-table s .0)))

@@ -1,14 +1,16 @@
 -- A STATE THAT HOLDS TOGETHER, as the code keeps it
 use mathlib.Core.Path.{_≡_}
 use mathlib.Core.Bool.{true}
+use mathlib.Core.List.{List, _++_}
 use Prim.Native.Nat.{ℕ, _<_}
-use lib.ListN.{take}
+use lib.ListN.{take, drop}
+use Rattle.rules.specs.Record.{recordBytes}
 use Rattle.rules.specs.Together.{Together}
 use Rattle.rules.specs.Planes.{falling, sharesOf}
 use Rattle.table.specs.declared.Table.{Table}
 use Rattle.plane.specs.declared.State.{State}
 use Rattle.plane.specs.Work.{nextOf}
-use Rattle.plane.specs.Machine.{workOf}
+use Rattle.plane.specs.Machine.{Moved, workOf}
 use Rattle.plane.specs.View.{tasksAt, view, Sound, Sized}
 
 -- queues, flags and slots agree with each other; what they show holds together; the order that the table keeps is the falling one
@@ -25,3 +27,8 @@ pub record Settles (s : State) (to : ℕ) : Type 0 where
   pub stop : ℕ
   pub ahead : s .now .0 < stop
   pub next : to ≡ nextOf (workOf s) stop
+
+-- the state and the room after a move: its record, and "Bytes of the room after the 48th are unchanged."
+pub record Writes (x : Moved) (k : State) (before after : List ℕ) : Type 0 where
+  pub state : k ≡ x .state
+  pub bytes : after ≡ recordBytes (x .rec) ++ drop 48 before

@@ -1,20 +1,17 @@
-// A step and an arrival in place. The whole state is lent, column by column, so that each promise is an equation on states.
+// A step and an arrival in place. Each is lent the columns that it touches; its promise is an equation on states, whatever the others are.
 ghost use mathlib.Core.Path.{_≡_};
 ghost use mathlib.Core.Bool.{true};
-ghost use mathlib.Core.List.{List, _++_};
-ghost use Prim.Native.Nat.{ℕ, _*_, _<_, _≤_};
-ghost use lib.ListN.{length, drop};
-ghost use Rattle.rules.specs.Record.{recordBytes};
+ghost use Prim.Native.Nat.{_*_, _<_, _≤_};
+ghost use lib.ListN.{length};
 ghost use Rattle.rules.proofs.Calls.{Comes};
-ghost use Rattle.plane.specs.Fit.{Eventful};
-ghost use Rattle.plane.specs.Machine.{workOf, withWork, openedOf, closedOf, moveTo, movedOf, arrivedOf};
-ghost use Rattle.plane.specs.Work.{atTime, eventsOf, nextOf};
+ghost use Rattle.plane.specs.Machine.{workOf, openedOf, moveTo, movedOf, arrivedOf};
+ghost use Rattle.plane.specs.Work.{nextOf};
 ghost use Rattle.plane.specs.View.{view};
-ghost use Rattle.floor.specs.Rows.{Came};
-ghost use Rattle.whole.specs.Whole.{Whole, Settles};
-ghost use Rattle.whole.specs.Lent.{here};
+ghost use Rattle.whole.specs.Whole.{Whole, Settles, Writes};
+ghost use Rattle.whole.specs.Lent.{still, inStep, byStep, inPlane, byPlane, inArrival, byArrival};
 ghost use Rattle.rules.specs.Bounds.{clock};
-use floor::Head;
+use floor::Lengths;
+use floor::Plane;
 use ground::Amount;
 use ground::Instant;
 
@@ -25,13 +22,12 @@ pub struct Terms {
     pub scale: u64,
 }
 
-// Where a state stands: the present, is a plane open, its end in ticks, how many run and how many wait.
+// Where a state stands: the present, is a plane open, its end in ticks, how many run and wait.
 pub struct Moment {
     pub now: Instant,
     pub going: bool,
-    pub end: u64,
-    pub running: usize,
-    pub waiting: usize,
+    pub end_tick: u64,
+    pub lengths: Lengths,
 }
 
 // A plane is open afterwards: the one that was, or a new one.
@@ -39,12 +35,10 @@ fn open_in(
     terms: Terms,
     moment: Moment,
     period: &[u32; 128],
-    exec: &[u32; 128],
     deadline: &[u32; 128],
     share: &[u64; 128],
     order: &[u16; 128],
     awake: &[bool; 128],
-    arrived: &[bool; 128],
     last: &[u64; 128],
     rk: &mut [u64; 128],
     rt: &mut [u16; 128],
@@ -52,25 +46,24 @@ fn open_in(
     wt: &mut [u16; 128],
     slots: &mut [u16; 16],
 ) -> Moment
-    requires whole { ⌜ Whole (here terms moment period exec deadline share order awake arrived last rk rt wk wt slots) ⌝ }
-    ensures is { λ r. ⌜ here terms r (period .entry) (exec .entry) (deadline .entry) (share .entry) (order .entry) (awake .entry) (arrived .entry) (last .entry) (rk .exit) (rt .exit) (wk .exit) (wt .exit) (slots .exit) ≡ openedOf (here terms moment (period .entry) (exec .entry) (deadline .entry) (share .entry) (order .entry) (awake .entry) (arrived .entry) (last .entry) (rk .entry) (rt .entry) (wk .entry) (wt .entry) (slots .entry)) ⌝ }
+    requires whole { ⌜ inStep Whole terms moment period deadline share order awake last rk rt wk wt slots ⌝ }
+    ensures is { λ r. ⌜ byStep (λ s k. k ≡ openedOf s) terms moment r period deadline share order (still awake) last rk rt wk wt slots ⌝ }
 {
     if moment.going {
         return moment;
     }
     let present = moment.now;
     let tick = present.0 / terms.scale;
-    let end = floor::plane_end(period, deadline, awake, last, terms.count, tick);
-    let ends = Instant(end * terms.scale);
-    let head = Head {
+    let end_tick = floor::plane_end(period, deadline, awake, last, terms.count, tick);
+    let close = Instant(end_tick * terms.scale);
+    let plane = Plane {
         m: terms.m,
         now: present,
-        end: ends,
-        running: moment.running,
-        waiting: moment.waiting,
+        close: close,
     };
-    let h = floor::open_plane(
-        head,
+    let len = end_tick - tick;
+    let lengths = floor::open_plane(
+        plane,
         rk,
         rt,
         wk,
@@ -80,104 +73,24 @@ fn open_in(
         share,
         order,
         terms.count,
-        end - tick,
+        len,
     );
-    let at = h.now;
     Moment {
-        now: at,
+        now: present,
         going: true,
-        end: end,
-        running: h.running,
-        waiting: h.waiting,
+        end_tick: end_tick,
+        lengths: lengths,
     }
 }
 
-// The plane closes at an instant.
-fn close_in(
-    terms: Terms,
-    moment: Moment,
-    to: Instant,
-    period: &[u32; 128],
-    exec: &[u32; 128],
-    deadline: &[u32; 128],
-    share: &[u64; 128],
-    order: &[u16; 128],
-    awake: &mut [bool; 128],
-    arrived: &[bool; 128],
-    last: &[u64; 128],
-    rk: &mut [u64; 128],
-    rt: &mut [u16; 128],
-    wk: &mut [u64; 128],
-    wt: &mut [u16; 128],
-    slots: &mut [u16; 16],
-) -> Moment
-    requires came { ⌜ Came (now awake) (now last) (terms .count) (moment .end) ⌝ }
-    ensures is { λ r. ⌜ here terms r (period .entry) (exec .entry) (deadline .entry) (share .entry) (order .entry) (awake .exit) (arrived .entry) (last .entry) (rk .exit) (rt .exit) (wk .exit) (wt .exit) (slots .exit) ≡ closedOf (here terms moment (period .entry) (exec .entry) (deadline .entry) (share .entry) (order .entry) (awake .entry) (arrived .entry) (last .entry) (rk .entry) (rt .entry) (wk .entry) (wt .entry) (slots .entry)) (to .0) ⌝ }
-{
-    floor::sleep_all(period, deadline, awake, last, terms.count, moment.end);
-    floor::clear_slots(slots);
-    Moment {
-        now: to,
-        going: false,
-        end: moment.end,
-        running: 0,
-        waiting: 0,
-    }
-}
-
-// The events of an instant inside the plane.
-fn happen_in(
-    terms: Terms,
-    moment: Moment,
-    to: Instant,
-    period: &[u32; 128],
-    exec: &[u32; 128],
-    deadline: &[u32; 128],
-    share: &[u64; 128],
-    order: &[u16; 128],
-    awake: &[bool; 128],
-    arrived: &[bool; 128],
-    last: &[u64; 128],
-    rk: &mut [u64; 128],
-    rt: &mut [u16; 128],
-    wk: &mut [u64; 128],
-    wt: &mut [u16; 128],
-    slots: &mut [u16; 16],
-) -> Moment
-    requires fit { ⌜ Eventful (atTime (to .0) (workOf (here terms moment period exec deadline share order awake arrived last rk rt wk wt slots))) ⌝ }
-    ensures is { λ r. ⌜ here terms r (period .entry) (exec .entry) (deadline .entry) (share .entry) (order .entry) (awake .entry) (arrived .entry) (last .entry) (rk .exit) (rt .exit) (wk .exit) (wt .exit) (slots .exit) ≡ withWork (here terms moment (period .entry) (exec .entry) (deadline .entry) (share .entry) (order .entry) (awake .entry) (arrived .entry) (last .entry) (rk .entry) (rt .entry) (wk .entry) (wt .entry) (slots .entry)) (eventsOf (atTime (to .0) (workOf (here terms moment (period .entry) (exec .entry) (deadline .entry) (share .entry) (order .entry) (awake .entry) (arrived .entry) (last .entry) (rk .entry) (rt .entry) (wk .entry) (wt .entry) (slots .entry))))) ⌝ }
-{
-    let ends = Instant(moment.end * terms.scale);
-    let head = Head {
-        m: terms.m,
-        now: to,
-        end: ends,
-        running: moment.running,
-        waiting: moment.waiting,
-    };
-    let h = floor::events(head, rk, rt, wk, wt, slots);
-    let at = h.now;
-    Moment {
-        now: at,
-        going: moment.going,
-        end: moment.end,
-        running: h.running,
-        waiting: h.waiting,
-    }
-}
-
-// At the next instant of a plane: the plane closes, or its events happen.
+// At the next instant of an open plane: the plane closes, or its events happen.
 fn settle_in(
     terms: Terms,
     moment: Moment,
     to: Instant,
     period: &[u32; 128],
-    exec: &[u32; 128],
     deadline: &[u32; 128],
-    share: &[u64; 128],
-    order: &[u16; 128],
     awake: &mut [bool; 128],
-    arrived: &[bool; 128],
     last: &[u64; 128],
     rk: &mut [u64; 128],
     rt: &mut [u16; 128],
@@ -185,47 +98,36 @@ fn settle_in(
     wt: &mut [u16; 128],
     slots: &mut [u16; 16],
 ) -> Moment
-    requires next { ⌜ Settles (here terms moment period exec deadline share order awake arrived last rk rt wk wt slots) (to .0) ⌝ }
-    ensures is { λ r. ⌜ here terms r (period .entry) (exec .entry) (deadline .entry) (share .entry) (order .entry) (awake .exit) (arrived .entry) (last .entry) (rk .exit) (rt .exit) (wk .exit) (wt .exit) (slots .exit) ≡ moveTo (here terms moment (period .entry) (exec .entry) (deadline .entry) (share .entry) (order .entry) (awake .entry) (arrived .entry) (last .entry) (rk .entry) (rt .entry) (wk .entry) (wt .entry) (slots .entry)) (to .0) .state ⌝ }
+    requires next { ⌜ inPlane (λ s. Settles s (to .0)) terms moment period deadline awake last rk rt wk wt slots ⌝ }
+    ensures is { λ r. ⌜ byPlane (λ s k. k ≡ moveTo s (to .0) .state) terms moment r period deadline awake last rk rt wk wt slots ⌝ }
 {
-    if to.0 == moment.end * terms.scale {
-        return close_in(
-            terms,
-            moment,
-            to,
-            period,
-            exec,
-            deadline,
-            share,
-            order,
-            awake,
-            arrived,
-            last,
-            rk,
-            rt,
-            wk,
-            wt,
-            slots,
-        );
+    let close = Instant(moment.end_tick * terms.scale);
+    if to.0 == close.0 {
+        floor::sleep_all(period, deadline, awake, last, terms.count, moment.end_tick);
+        floor::clear_slots(slots);
+        let none = Lengths {
+            running: 0,
+            waiting: 0,
+        };
+        return Moment {
+            now: to,
+            going: false,
+            end_tick: moment.end_tick,
+            lengths: none,
+        };
     }
-    happen_in(
-        terms,
-        moment,
-        to,
-        period,
-        exec,
-        deadline,
-        share,
-        order,
-        awake,
-        arrived,
-        last,
-        rk,
-        rt,
-        wk,
-        wt,
-        slots,
-    )
+    let plane = Plane {
+        m: terms.m,
+        now: to,
+        close: close,
+    };
+    let lengths = floor::events(plane, moment.lengths, rk, rt, wk, wt, slots);
+    Moment {
+        now: to,
+        going: moment.going,
+        end_tick: moment.end_tick,
+        lengths: lengths,
+    }
 }
 
 // In an open plane: on to the next event or the stop, with a record of it.
@@ -234,12 +136,8 @@ fn move_in(
     moment: Moment,
     stop: Instant,
     period: &[u32; 128],
-    exec: &[u32; 128],
     deadline: &[u32; 128],
-    share: &[u64; 128],
-    order: &[u16; 128],
     awake: &mut [bool; 128],
-    arrived: &[bool; 128],
     last: &[u64; 128],
     rk: &mut [u64; 128],
     rt: &mut [u16; 128],
@@ -248,32 +146,21 @@ fn move_in(
     slots: &mut [u16; 16],
     room: &mut [u8],
 ) -> Moment
-    requires ready { ⌜ Whole (here terms moment period exec deadline share order awake arrived last rk rt wk wt slots) × (moment .going ≡ true) × (moment .now .0 < stop .0) × (48 ≤ length (now room)) ⌝ }
-    ensures is { λ r. ⌜ (here terms r (period .entry) (exec .entry) (deadline .entry) (share .entry) (order .entry) (awake .exit) (arrived .entry) (last .entry) (rk .exit) (rt .exit) (wk .exit) (wt .exit) (slots .exit) ≡ moveTo (here terms moment (period .entry) (exec .entry) (deadline .entry) (share .entry) (order .entry) (awake .entry) (arrived .entry) (last .entry) (rk .entry) (rt .entry) (wk .entry) (wt .entry) (slots .entry)) (nextOf (workOf (here terms moment (period .entry) (exec .entry) (deadline .entry) (share .entry) (order .entry) (awake .entry) (arrived .entry) (last .entry) (rk .entry) (rt .entry) (wk .entry) (wt .entry) (slots .entry))) (stop .0)) .state)
-        × (now (room .exit) ≡ recordBytes (moveTo (here terms moment (period .entry) (exec .entry) (deadline .entry) (share .entry) (order .entry) (awake .entry) (arrived .entry) (last .entry) (rk .entry) (rt .entry) (wk .entry) (wt .entry) (slots .entry)) (nextOf (workOf (here terms moment (period .entry) (exec .entry) (deadline .entry) (share .entry) (order .entry) (awake .entry) (arrived .entry) (last .entry) (rk .entry) (rt .entry) (wk .entry) (wt .entry) (slots .entry))) (stop .0)) .rec) ++ drop 48 (now (room .entry))) ⌝ }
+    requires ready { ⌜ (48 ≤ length (now room)) × inPlane (λ s. Whole s × (s .going ≡ true) × (s .now .0 < stop .0)) terms moment period deadline awake last rk rt wk wt slots ⌝ }
+    ensures is { λ r. ⌜ byPlane (λ s k. Writes (moveTo s (nextOf (workOf s) (stop .0))) k (now (room .entry)) (now (room .exit)))
+        terms moment r period deadline awake last rk rt wk wt slots ⌝ }
 {
     let present = moment.now;
-    let ends = Instant(moment.end * terms.scale);
-    let head = Head {
-        m: terms.m,
-        now: present,
-        end: ends,
-        running: moment.running,
-        waiting: moment.waiting,
-    };
-    let to = floor::next_instant(head, rk, wk, stop);
+    let close = Instant(moment.end_tick * terms.scale);
+    let to = floor::next_instant(close, moment.lengths, rk, wk, stop);
     room::write(room, present, to, slots);
     settle_in(
         terms,
         moment,
         to,
         period,
-        exec,
         deadline,
-        share,
-        order,
         awake,
-        arrived,
         last,
         rk,
         rt,
@@ -289,12 +176,10 @@ pub fn step_in(
     moment: Moment,
     horizon: u64,
     period: &[u32; 128],
-    exec: &[u32; 128],
     deadline: &[u32; 128],
     share: &[u64; 128],
     order: &[u16; 128],
     awake: &mut [bool; 128],
-    arrived: &[bool; 128],
     last: &[u64; 128],
     rk: &mut [u64; 128],
     rt: &mut [u16; 128],
@@ -303,21 +188,19 @@ pub fn step_in(
     slots: &mut [u16; 16],
     room: &mut [u8],
 ) -> Moment
-    requires ready { ⌜ Whole (here terms moment period exec deadline share order awake arrived last rk rt wk wt slots) × (moment .now .0 < horizon * terms .scale) × (horizon ≤ clock) × (48 ≤ length (now room)) ⌝ }
-    ensures is { λ r. ⌜ (here terms r (period .entry) (exec .entry) (deadline .entry) (share .entry) (order .entry) (awake .exit) (arrived .entry) (last .entry) (rk .exit) (rt .exit) (wk .exit) (wt .exit) (slots .exit) ≡ movedOf (here terms moment (period .entry) (exec .entry) (deadline .entry) (share .entry) (order .entry) (awake .entry) (arrived .entry) (last .entry) (rk .entry) (rt .entry) (wk .entry) (wt .entry) (slots .entry)) horizon .state)
-        × (now (room .exit) ≡ recordBytes (movedOf (here terms moment (period .entry) (exec .entry) (deadline .entry) (share .entry) (order .entry) (awake .entry) (arrived .entry) (last .entry) (rk .entry) (rt .entry) (wk .entry) (wt .entry) (slots .entry)) horizon .rec) ++ drop 48 (now (room .entry))) ⌝ }
+    requires ready { ⌜ (48 ≤ length (now room)) × (horizon ≤ clock)
+        × inStep (λ s. Whole s × (s .now .0 < horizon * s .table .scale)) terms moment period deadline share order awake last rk rt wk wt slots ⌝ }
+    ensures is { λ r. ⌜ byStep (λ s k. Writes (movedOf s horizon) k (now (room .entry)) (now (room .exit))) terms moment r period deadline share order awake last rk rt wk wt slots ⌝ }
 {
     let stop = Instant(horizon * terms.scale);
     let opened = open_in(
         terms,
         moment,
         period,
-        exec,
         deadline,
         share,
         order,
         awake,
-        arrived,
         last,
         rk,
         rt,
@@ -330,12 +213,8 @@ pub fn step_in(
         opened,
         stop,
         period,
-        exec,
         deadline,
-        share,
-        order,
         awake,
-        arrived,
         last,
         rk,
         rt,
@@ -351,11 +230,7 @@ pub fn arrive_in(
     terms: Terms,
     moment: Moment,
     i: usize,
-    period: &[u32; 128],
-    exec: &[u32; 128],
-    deadline: &[u32; 128],
     share: &[u64; 128],
-    order: &[u16; 128],
     awake: &mut [bool; 128],
     arrived: &mut [bool; 128],
     last: &mut [u64; 128],
@@ -365,8 +240,8 @@ pub fn arrive_in(
     wt: &mut [u16; 128],
     slots: &mut [u16; 16],
 ) -> Moment
-    requires ready { ⌜ Whole (here terms moment period exec deadline share order awake arrived last rk rt wk wt slots) × Comes (view (here terms moment period exec deadline share order awake arrived last rk rt wk wt slots)) i ⌝ }
-    ensures is { λ r. ⌜ here terms r (period .entry) (exec .entry) (deadline .entry) (share .entry) (order .entry) (awake .exit) (arrived .exit) (last .exit) (rk .exit) (rt .exit) (wk .exit) (wt .exit) (slots .exit) ≡ arrivedOf (here terms moment (period .entry) (exec .entry) (deadline .entry) (share .entry) (order .entry) (awake .entry) (arrived .entry) (last .entry) (rk .entry) (rt .entry) (wk .entry) (wt .entry) (slots .entry)) i ⌝ }
+    requires ready { ⌜ inArrival (λ s. Whole s × Comes (view s) i) terms moment share awake arrived last rk rt wk wt slots ⌝ }
+    ensures is { λ r. ⌜ byArrival (λ s k. k ≡ arrivedOf s i) terms moment r share awake arrived last rk rt wk wt slots ⌝ }
 {
     let present = moment.now;
     let tick = present.0 / terms.scale;
@@ -376,25 +251,19 @@ pub fn arrive_in(
     arrived[i] = true;
     last[i] = tick;
     if !moment.going {
-        return Moment {
-            now: present,
-            going: moment.going,
-            end: moment.end,
-            running: moment.running,
-            waiting: moment.waiting,
-        };
+        return moment;
     }
-    let ends = Instant(moment.end * terms.scale);
-    let head = Head {
+    let close = Instant(moment.end_tick * terms.scale);
+    let plane = Plane {
         m: terms.m,
         now: present,
-        end: ends,
-        running: moment.running,
-        waiting: moment.waiting,
+        close: close,
     };
-    let amount = Amount(part * (moment.end - tick));
-    let h = floor::join(
-        head,
+    let amount = Amount(part * (moment.end_tick - tick));
+    let below = part < terms.scale;
+    let lengths = floor::join(
+        plane,
+        moment.lengths,
         rk,
         rt,
         wk,
@@ -402,14 +271,12 @@ pub fn arrive_in(
         slots,
         task,
         amount,
-        part < terms.scale,
+        below,
     );
-    let at = h.now;
     Moment {
-        now: at,
+        now: present,
         going: moment.going,
-        end: moment.end,
-        running: h.running,
-        waiting: h.waiting,
+        end_tick: moment.end_tick,
+        lengths: lengths,
     }
 }

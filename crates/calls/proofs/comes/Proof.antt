@@ -1,6 +1,6 @@
 use borrow.Author.Needs.{needs}
 use denote.Ref.{now}
-use Prim.Native.Nat.{_+_, _<_, _≤_}
+use mathlib.Core.Path.{sym, _∙_}
 use native.Mathlib.Omega.{arith}
 use Rattle.calls.proofs.Coming.{comes-7, comes-8, comes-9, comes-late, comes-first}
 use Rattle.calls.proofs.comes.Statement.{statement}
@@ -18,54 +18,31 @@ returns-3 c =
     let a = e .before .before .args in
     comes-8 (a .terms .count) (a .terms .scale) (a .present .0) (now (a .period)) (now (a .arrived)) (now (a .last)) (a .task) (omega (arith, e .before .if1 .left)) (omega (arith, e .if2 .left)) (c .if3 .taken)
 
-add-limit : tie.Need-add-if5
-add-limit c =
-    let t = c .before .before .before .before .before in
-    let e = t .before .before .before .before .before in
-    let s = e .before .before in
-    record { fits = omega (arith, s .pre .dates _ (omega (arith, e .before .if1 .left, e .if2 .left)) (t .if4 .taken), c .wide .ensures) }
+too-soon-requires : tie.Need-too-soon-requires
+too-soon-requires c κs =
+    let e = c .before .before .before .before .before .before .before .before .before in
+    c .before .before .before .before .before .before .before .before .before .before .before .pre .dates _ (omega (arith, e .before .if1 .left, e .if2 .left)) (c .before .before .before .before .if4 .taken)
 
 returns-4 : tie.Need-returns-4
 returns-4 c =
-    let w = c .before in
-    let t = w .before .before .before .before .before in
-    let o = t .before .before in
-    let e = o .before .before .before in
+    let e = c .before .before .before .before .before .before .before .before .before .before .before in
     let a = e .before .before .args in
-    comes-9 (a .terms .count) (a .terms .scale) (a .present .0) (now (a .period)) (now (a .arrived)) (now (a .last)) (a .task) (omega (arith, e .before .if1 .left)) (omega (arith, e .if2 .left)) (o .if3 .left) (t .if4 .taken) (omega (arith, c .if5 .taken, w .wide .ensures))
+    comes-9 (a .terms .count) (a .terms .scale) (a .present .0) (now (a .period)) (now (a .arrived)) (now (a .last)) (a .task) (omega (arith, e .before .if1 .left)) (omega (arith, e .if2 .left)) (c .before .before .before .before .before .before .before .before .if3 .left) (c .before .before .before .before .before .before .if4 .taken) (sym (c .before .too-soon .ensures) ∙ c .if5 .taken)
 
 returns-5 : tie.Need-returns-5
 returns-5 c =
-    let w = c .before in
-    let t = w .before .before .before .before .before in
-    let o = t .before .before in
-    let e = o .before .before .before in
+    let e = c .before .before .before .before .before .before .before .before .before .before .before in
     let a = e .before .before .args in
-    comes-late (a .terms .count) (a .terms .scale) (a .present .0) (now (a .period)) (now (a .arrived)) (now (a .last)) (a .task) (omega (arith, e .before .if1 .left)) (omega (arith, e .if2 .left)) (o .if3 .left) (t .if4 .taken) (omega (arith, c .if5 .left, w .wide .ensures))
+    comes-late (a .terms .count) (a .terms .scale) (a .present .0) (now (a .period)) (now (a .arrived)) (now (a .last)) (a .task) (omega (arith, e .before .if1 .left)) (omega (arith, e .if2 .left)) (c .before .before .before .before .before .before .before .before .if3 .left) (c .before .before .before .before .before .before .if4 .taken) (sym (c .before .too-soon .ensures) ∙ c .if5 .left)
 
 returns-6 : tie.Need-returns-6
 returns-6 c =
-    let o = c .before .before in
-    let e = o .before .before .before in
+    let e = c .before .before .before .before .before in
     let a = e .before .before .args in
-    comes-first (a .terms .count) (a .terms .scale) (a .present .0) (now (a .period)) (now (a .arrived)) (now (a .last)) (a .task) (omega (arith, e .before .if1 .left)) (omega (arith, e .if2 .left)) (o .if3 .left) (c .if4 .left)
+    comes-first (a .terms .count) (a .terms .scale) (a .present .0) (now (a .period)) (now (a .arrived)) (now (a .last)) (a .task) (omega (arith, e .before .if1 .left)) (omega (arith, e .if2 .left)) (c .before .before .if3 .left) (c .if4 .left)
 
 pub comes-spec : {M : Type 1} → statement M
 comes-spec =
     tie.close
-    (tie.spec
-    returns
-    returns-2
-    (λ c. search needs)
-    returns-3
-    (λ c. search needs)
-    (λ c. search needs)
-    (λ c. search needs)
-    (λ c. search needs)
-    (λ c. search needs)
-    (λ c. search needs)
-    (λ c κs. search needs)
-    add-limit
-    returns-4
-    returns-5
-    returns-6)
+    (tie.spec returns returns-2 (λ c. search needs) returns-3 (λ c. search needs) (λ c. search needs) (λ c. search needs) (λ c. search needs) (λ c. search needs)
+    (λ c. search needs) too-soon-requires returns-4 returns-5 returns-6)

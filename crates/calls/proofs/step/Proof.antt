@@ -14,31 +14,28 @@ may-step-requires c κs = let b = c .before .before .before .before .before .bef
 
 step-in-requires : tie.Need-step-in-requires
 step-in-requires c κs =
-    let t = c .before .before .before .before .before .before .before .before .before .before .before .before .before .before in
-    let d = t .before in
-    let A = d .before .may-step .ensures .1 (sym (d .is-done .ensures) ∙ t .if1 .taken) in
-    (A .whole, A .ahead, A .clock, A .space)
+    let d = c .before .before .before .before .before .before .before .before .before .before .before .before .before in
+    let A = d .before .may-step .ensures .ahead (sym (d .is-done .ensures) ∙ c .before .before .before .before .before .before .before .before .before .before .before .before .if1 .taken) in
+    (A .space, A .clock, (c .before .before .before .before .before .before .before .before .before .before .before .before .before .before .before .before .before .before .before .before .before .before .before .before .before .before .before .before .before .before .before .before .before .before .before .before .before .before .before .before .before .before .before .before .before .before .before .args .s, (A .whole, A .ahead)))
 
 same-length : tie.Need-same-length
-same-length c =
-    ⊎-elim
-    (λ w. ap length (w .18) ∙ search needs)
-    (λ w. ap length (w .1))
-    (c .before .if1 .came)
+same-length c = ⊎-elim (λ w. ap length (w .16) ∙ search needs) (λ w. ap length (w .1)) (c .before .before .if1 .came)
 
 -- taken or refused, the state is put together from the same parts
 returns : tie.Need-returns
 returns c =
-    let d = c .before .before in
-    let e = d .before .may-step .ensures .0 in
-    let b = c .before .before .before .before .before .before .before .before .before .before .before .before .before .before .before .before .before .before .before .before .before .before .before .before .before .before .before .before .before .before .before .before .before .before .before .before in
-    let s = b .args .s in
+    let d = c .before .before .before in
+    let e = d .before .may-step .ensures .answer in
+    let a = c .before .before .before .before .before .before .before .before .before .before .before .before .before .before .before .before .before .before .before .before .before .before .before .before .before .before .before .before .before .before .before .before .before .before .before .before .before .args in
+    let s = a .s in
     ⊎-elim
-    (λ w. step-yes s (b .args .horizon) (now (b .args .room)) _ e (sym (d .is-done .ensures) ∙ w .0 .taken) _
-    (same-parts _ _ _ _ _ _ (w .19) refl refl (w .20) (w .21) (w .22) (w .23) (w .24) (w .25) ∙ w .15 .ensures .0) _ (w .18 ∙ w .15 .ensures .1))
-    (λ w. step-no s (b .args .horizon) (now (b .args .room)) _ e (sym (d .is-done .ensures) ∙ w .0 .left) _
+    (λ w.
+    let k = w .13 .ensures s in
+    step-yes s (a .horizon) (now (a .room)) _ e (sym (d .is-done .ensures) ∙ w .0 .taken) _
+    (same-parts _ _ _ _ _ _ (w .17) refl refl (w .18) (w .19) (w .20) (w .21) (w .22) (w .23) ∙ k .state) _ (w .16 ∙ k .bytes))
+    (λ w. step-no s (a .horizon) (now (a .room)) _ e (sym (d .is-done .ensures) ∙ w .0 .left) _
     (same-parts _ _ _ _ _ _ (w .2) refl refl (w .3) (w .4) (w .5) (w .6) (w .7) (w .8)) _ (w .1))
-    (c .before .if1 .came)
+    (c .before .before .if1 .came)
 
 pub step-spec : {M : Type 1} → statement M
 step-spec = tie.close (tie.spec may-step-requires (λ c κs. search needs) step-in-requires same-length returns)

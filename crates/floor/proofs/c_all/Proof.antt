@@ -1,62 +1,35 @@
 use borrow.Author.Needs.{needs}
 use mathlib.Core.Path.{sym, _∙_}
 use native.Mathlib.Omega.{arith}
-use Rattle.floor.specs.Lent.{work}
 use borrow.Author.Tests.{not-true, not-false}
+use Rattle.floor.specs.Lent.{work}
 use Rattle.floor.proofs.Turns.{c-some, Seizing, seizing-from, seizing-yields, seizing-on, seizing-stays, seizing-out}
 use Rattle.floor.proofs.c_all.Statement.{statement}
 use Rattle.floor.proofs.c_all.Tie as tie
 
 abbrev Inv-loop : tie.InvT-loop
-Inv-loop rk₀ rt₀ wk₀ wt₀ slots₀ h₀ n₀ rk rt wk wt slots h n = Seizing (work h₀ rk₀ rt₀ wk₀ wt₀ slots₀) (work h rk rt wk wt slots) n
+Inv-loop plane rk₀ rt₀ wk₀ wt₀ slots₀ k₀ left₀ rk rt wk wt slots k left = Seizing (work plane k₀ rk₀ rt₀ wk₀ wt₀ slots₀) (work plane k rk rt wk wt slots) left
 
 abbrev μ-loop : tie.MeasureT-loop
-μ-loop rk₀ rt₀ wk₀ wt₀ slots₀ h₀ n₀ rk rt wk wt slots h n = n
+μ-loop plane rk₀ rt₀ wk₀ wt₀ slots₀ k₀ left₀ rk rt wk wt slots k left = left
 
 loop-holds : tie.Need-loop-holds Inv-loop μ-loop
 loop-holds c = seizing-from (c .pre)
 
-is-due-requires : tie.Need-is-due-requires Inv-loop μ-loop
-is-due-requires c κs = search needs
-
 returns : tie.Need-returns Inv-loop μ-loop
-returns c =
-    let k = c .before .before .before .before .loop in
-    seizing-stays (k .n) (k .inv) (sym (c .before .is-due .ensures) ∙ not-true _ (c .if1 .taken))
+returns c = seizing-stays _ (c .before .before .before .before .loop .inv) (sym (c .before .is-due .ensures) ∙ not-true _ (c .if1 .taken))
 
 c-one-requires : tie.Need-c-one-requires Inv-loop μ-loop
 c-one-requires c κs =
-    let k = c .before .before .before .before .before .before .before .before .before .loop in
+    let l = c .before .before .before .before .before .before .before .before .before .loop in
     let e = sym (c .before .before .before .before .before .before .is-due .ensures) ∙ not-false _ (c .before .before .before .before .before .if1 .left) in
-    (c-some (work (k .h) (k .rk) (k .rt) (k .wk) (k .wt) (k .slots)) e, seizing-yields (k .n) (c .before .before .before .before .before .before .before .before .loop-test .taken) (k .inv) e, k .inv .fit)
-
-sub-n : tie.Need-sub-n Inv-loop μ-loop
-sub-n c = search needs
-
-loop-less : tie.Need-loop-less Inv-loop μ-loop
-loop-less c = search needs
+    (c-some (work (c .before .before .before .before .before .before .before .before .before .before .args .plane) (l .k) (l .rk) (l .rt) (l .wk) (l .wt) (l .slots)) e, seizing-yields _ (c .before .before .before .before .before .before .before .before .loop-test .taken) (l .inv) e, l .inv .fit)
 
 loop-again : tie.Need-loop-again Inv-loop μ-loop
-loop-again c =
-    let k = c .before .before .before .before .before .before .before .before .before .before .loop in
-    seizing-on (k .n) (c .before .before .before .before .before .before .before .before .before .loop-test .taken) (k .inv) (sym (c .before .before .before .before .before .before .before .is-due .ensures) ∙ not-false _ (c .before .before .before .before .before .before .if1 .left)) (c .c-one .ensures)
+loop-again c = seizing-on _ (c .before .before .before .before .before .before .before .before .before .loop-test .taken) (c .before .before .before .before .before .before .before .before .before .before .loop .inv) (sym (c .before .before .before .before .before .before .before .is-due .ensures) ∙ not-false _ (c .before .before .before .before .before .before .if1 .left)) (c .c-one .ensures)
 
 returns-2 : tie.Need-returns-2 Inv-loop μ-loop
-returns-2 c =
-    let k = c .before .loop in
-    seizing-out (k .n) (omega arith) (k .inv)
+returns-2 c = seizing-out _ (omega arith) (c .before .loop .inv)
 
 pub c-all-spec : {M : Type 1} → statement M
-c-all-spec =
-    tie.close
-    (tie.spec
-    Inv-loop
-    μ-loop
-    loop-holds
-    is-due-requires
-    returns
-    c-one-requires
-    sub-n
-    loop-less
-    loop-again
-    returns-2)
+c-all-spec = tie.close (tie.spec Inv-loop μ-loop loop-holds (λ c κs. search needs) returns c-one-requires (λ c. search needs) (λ c. search needs) loop-again returns-2)

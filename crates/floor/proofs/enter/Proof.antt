@@ -1,22 +1,23 @@
 use borrow.Author.Needs.{needs}
+use mathlib.Core.Path.{refl}
 use borrow.Author.Tests.{lt-ltb, le-ltb}
-use Rattle.plane.specs.Work.{enter}
+use Rattle.plane.specs.Work.{park, place, enter}
+use Rattle.floor.specs.Lent.{work}
+use Rattle.floor.proofs.Works.{work-is}
 use Rattle.floor.proofs.enter.Statement.{statement}
 use Rattle.floor.proofs.enter.Tie as tie
 
-place-requires : tie.Need-place-requires
-place-requires c κs = search needs
-
 returns : tie.Need-returns
-unfolding enter
-returns c = rw (lt-ltb _ _ (c .before .before .before .before .before .before .if1 .taken)) (c .place .ensures)
-
-park-requires : tie.Need-park-requires
-park-requires c κs = search needs
+unfolding enter place
+returns c =
+    let s = c .before .before .before .before .before .before .before in
+    rw (lt-ltb _ _ (c .before .before .before .before .if1 .taken)) (work-is (work (s .args .plane) (s .args .n) (s .args .rk .now) (s .args .rt .now) (s .args .wk .now) (s .args .wt .now) (s .args .slots .now)) (c .place .ensures .0) refl (c .place .ensures .1))
 
 returns-2 : tie.Need-returns-2
-unfolding enter
-returns-2 c = rw (le-ltb _ _ (c .before .before .before .before .before .before .if1 .left)) (c .park .ensures)
+unfolding enter park
+returns-2 c =
+    let s = c .before .before .before .before .before .before in
+    rw (le-ltb _ _ (c .before .before .before .if1 .left)) (work-is (work (s .args .plane) (s .args .n) (s .args .rk .now) (s .args .rt .now) (s .args .wk .now) (s .args .wt .now) (s .args .slots .now)) refl (c .park .ensures) refl)
 
 pub enter-spec : {M : Type 1} → statement M
-enter-spec = tie.close (tie.spec place-requires returns park-requires returns-2)
+enter-spec = tie.close (tie.spec (λ c κs. search needs) returns (λ c κs. search needs) returns-2)

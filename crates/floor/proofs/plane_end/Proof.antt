@@ -2,7 +2,7 @@ use borrow.Author.Needs.{needs}
 use mathlib.Core.Path.{_∙_, ap}
 use Prim.Native.Nat.{ℕ, _-_, min}
 use Rattle.floor.specs.Rows.{rows, jobs}
-use Rattle.floor.proofs.Rows.{Ending, ending-from, ending-on, ending-end}
+use Rattle.floor.proofs.Rows.{came-at, Ending, ending-from, ending-on, ending-end}
 use Rattle.floor.proofs.plane_end.Statement.{statement}
 use Rattle.floor.proofs.plane_end.Tie as tie
 
@@ -13,44 +13,22 @@ abbrev μ-loop : tie.MeasureT-loop
 μ-loop period deadline awake last count tick e₀ i₀ e i = count - i
 
 limit-requires : tie.Need-limit-requires Inv-loop μ-loop
-limit-requires c κs = search needs
+limit-requires c κs = came-at (c .pre .1) (c .pre .0)
 
 loop-holds : tie.Need-loop-holds Inv-loop μ-loop
-loop-holds c = ending-from (c .limit .ensures)
+loop-holds c = ending-from (c .limit .ensures (c .before .args .count))
 
 limit-requires-2 : tie.Need-limit-requires-2 Inv-loop μ-loop
-limit-requires-2 c κs = search needs
-
-lesser-requires : tie.Need-lesser-requires Inv-loop μ-loop
-lesser-requires c κs = search needs
-
-add-i : tie.Need-add-i Inv-loop μ-loop
-add-i c = search needs
-
-loop-less : tie.Need-loop-less Inv-loop μ-loop
-loop-less c = search needs
+limit-requires-2 c κs = came-at (c .before .before .before .pre .1) (c .loop-test .taken)
 
 loop-again : tie.Need-loop-again Inv-loop μ-loop
 loop-again c =
     let k = c .before .before .before .loop in
-    ending-on (c .before .before .loop-test .taken) (k .inv) (c .lesser .ensures ∙ ap (λ (x : ℕ). min (k .e) x) (c .before .limit2 .ensures))
+    ending-on (c .before .before .loop-test .taken) (k .inv) (c .lesser .ensures ∙ ap (λ (x : ℕ). min (k .e) x) (c .before .limit2 .ensures (c .before .before .before .before .before .args .count)))
 
 returns : tie.Need-returns Inv-loop μ-loop
-returns c =
-    let k = c .before .loop in
-    ending-end (c .loop-test .left) (k .inv)
+returns c = ending-end (c .loop-test .left) (c .before .loop .inv)
 
 pub plane-end-spec : {M : Type 1} → statement M
 plane-end-spec =
-    tie.close
-    (tie.spec
-    Inv-loop
-    μ-loop
-    limit-requires
-    loop-holds
-    limit-requires-2
-    lesser-requires
-    add-i
-    loop-less
-    loop-again
-    returns)
+    tie.close (tie.spec Inv-loop μ-loop limit-requires loop-holds limit-requires-2 (λ c κs. search needs) (λ c. search needs) (λ c. search needs) loop-again returns)

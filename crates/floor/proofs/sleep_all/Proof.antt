@@ -1,7 +1,7 @@
 use borrow.Author.Needs.{needs}
 use Prim.Native.Nat.{_-_}
 use Rattle.floor.specs.Rows.{rows}
-use Rattle.floor.proofs.Rows.{Sleeping, sleeping-from, sleeping-on, sleeping-end}
+use Rattle.floor.proofs.Rows.{came-at, Sleeping, sleeping-from, sleeping-on, sleeping-end}
 use Rattle.floor.proofs.sleep_all.Statement.{statement}
 use Rattle.floor.proofs.sleep_all.Tie as tie
 
@@ -12,32 +12,16 @@ abbrev μ-loop : tie.MeasureT-loop
 μ-loop period deadline awake₀ last count tick i₀ awake i = count - i
 
 loop-holds : tie.Need-loop-holds Inv-loop μ-loop
-loop-holds c =
-    let a = c .args in
-    sleeping-from (rows (a .period .now) (a .deadline .now) (a .count)) (c .pre)
+loop-holds c = let a = c .args in sleeping-from (rows (a .period .now) (a .deadline .now) (a .count)) (c .pre)
 
 sleep-row-requires : tie.Need-sleep-row-requires Inv-loop μ-loop
-sleep-row-requires c κs =
-    let k = c .before .before .loop in
-    (c .before .loop-test .taken, k .inv .came)
-
-add-i : tie.Need-add-i Inv-loop μ-loop
-add-i c = search needs
-
-loop-less : tie.Need-loop-less Inv-loop μ-loop
-loop-less c = search needs
+sleep-row-requires c κs = came-at (c .before .before .loop .inv .came) (c .before .loop-test .taken)
 
 loop-again : tie.Need-loop-again Inv-loop μ-loop
-loop-again c =
-    let k = c .before .before .before .loop in
-    sleeping-on (c .before .before .loop-test .taken) (k .inv) (c .sleep-row .ensures)
+loop-again c = sleeping-on (c .before .before .loop-test .taken) (c .before .before .before .loop .inv) (c .sleep-row .ensures (c .before .before .before .before .args .count))
 
 returns : tie.Need-returns Inv-loop μ-loop
-returns c =
-    let k = c .before .loop in
-    sleeping-end (c .loop-test .left) (k .inv)
+returns c = sleeping-end (c .loop-test .left) (c .before .loop .inv)
 
 pub sleep-all-spec : {M : Type 1} → statement M
-sleep-all-spec =
-    tie.close
-    (tie.spec Inv-loop μ-loop loop-holds sleep-row-requires add-i loop-less loop-again returns)
+sleep-all-spec = tie.close (tie.spec Inv-loop μ-loop loop-holds sleep-row-requires (λ c. search needs) (λ c. search needs) loop-again returns)
