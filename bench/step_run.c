@@ -10,12 +10,11 @@
 #include "plain.h"
 #include "scenario.h"
 
-// bench_step, and the same of its lent columns
-#define TABLE const uint32_t *, const uint32_t *, const uint32_t *, const uint64_t *, const uint16_t *
-void held_calls(size_t, size_t, uint64_t, uint64_t *, bool *, uint64_t *, size_t *, size_t *, const uint64_t *, size_t, TABLE, bool *, bool *,
-    uint64_t *, uint64_t *, uint16_t *, uint64_t *, uint16_t *, uint16_t *, uint8_t *, size_t);
-bool held_check(size_t, size_t, uint64_t, uint64_t, bool, uint64_t, size_t, size_t, TABLE, const bool *, const bool *, const uint64_t *,
-    const uint64_t *, const uint16_t *, const uint64_t *, const uint16_t *, const uint16_t *);
+// bench_step
+void held_calls(size_t, size_t, uint64_t, uint64_t *, bool *, uint64_t *, size_t *, size_t *, const uint64_t *, size_t, const uint32_t *, const uint32_t *,
+    const uint64_t *, const uint16_t *, bool *, bool *, uint64_t *, uint64_t *, uint16_t *, uint64_t *, uint16_t *, uint16_t *, uint8_t *, size_t);
+bool held_check(size_t, size_t, uint64_t, uint64_t, bool, uint64_t, size_t, size_t, const uint32_t *, const uint32_t *, const uint32_t *, const uint64_t *,
+    const uint16_t *, const bool *, const bool *, const uint64_t *, const uint64_t *, const uint16_t *, const uint64_t *, const uint16_t *, const uint16_t *);
 uint64_t public_calls(const uint8_t *, size_t, size_t, const uint64_t *, size_t, uint8_t *, size_t);
 
 enum { CALLS = 20000, REPEATS = 7, SEEN = 64, RECORDS = 1000 };
@@ -46,7 +45,7 @@ static uint64_t list[CALLS];
 static void in_place(const Scenario *c, Left *left) {
     static Plain s;
     plain_admit(c->table, c->table_len, c->m, &s);
-    held_calls(MOMENT(&s), list, c->len, COLUMNS(&s), (bool *)s.awake, (bool *)s.arrived, s.last, QUEUES(&s), left->record, 48);
+    held_calls(MOMENT(&s), list, c->len, s.period, s.deadline, s.share, s.order, (bool *)s.awake, (bool *)s.arrived, s.last, QUEUES(&s), left->record, 48);
     left->present = s.now;
 }
 

@@ -4,13 +4,14 @@ ghost use mathlib.Core.Path.{_≡_};
 ghost use Prim.Native.Nat.{ℕ, _*_, _<_, _≤_};
 ghost use lib.ListN.{length};
 ghost use Rattle.whole.specs.Whole.{Whole};
-ghost use Rattle.whole.specs.Lent.{here};
+ghost use Rattle.whole.specs.Lent.{old};
 ghost use Rattle.holding.specs.Holds.{holdsOf};
 ghost use Rattle.calls.specs.Admit.{admitOf};
-ghost use Rattle.bench_step.specs.Moments.{termsOf, momentOf};
+ghost use Rattle.bench_step.specs.Moments.{termsOf, momentOf, momentHere, momentOld, momentNew, inCall, byCall};
 ghost use Rattle.bench_step.specs.Held.{Taken, doneOf, AllTaken, doneAll};
 ghost use Rattle.bench_step.specs.Made.{madeAll, EndsAt};
 ghost use Rattle.text.specs.Output.{Put, recordLines};
+use floor::Lengths;
 use ground::Instant;
 use plane::State;
 use whole::Moment;
@@ -22,7 +23,6 @@ fn held_call(
     moment: Moment,
     call: u64,
     period: &[u32; 128],
-    exec: &[u32; 128],
     deadline: &[u32; 128],
     share: &[u64; 128],
     order: &[u16; 128],
@@ -36,19 +36,16 @@ fn held_call(
     slots: &mut [u16; 16],
     room: &mut [u8],
 ) -> Moment
-    requires taken { ⌜ Whole (here terms moment period exec deadline share order awake arrived last rk rt wk wt slots) × Taken (here terms moment period exec deadline share order awake arrived last rk rt wk wt slots) call × (48 ≤ length (now room)) ⌝ }
-    ensures is { λ r. ⌜ (here terms r (period .entry) (exec .entry) (deadline .entry) (share .entry) (order .entry) (awake .exit) (arrived .exit) (last .exit) (rk .exit) (rt .exit) (wk .exit) (wt .exit) (slots .exit) ≡ doneOf (here terms moment (period .entry) (exec .entry) (deadline .entry) (share .entry) (order .entry) (awake .entry) (arrived .entry) (last .entry) (rk .entry) (rt .entry) (wk .entry) (wt .entry) (slots .entry)) call) × (length (now (room .exit)) ≡ length (now (room .entry))) ⌝ }
+    requires taken { ⌜ (48 ≤ length (now room)) × inCall (λ s. Whole s × Taken s call) terms moment period deadline share order awake arrived last rk rt wk wt slots ⌝ }
+    ensures is { λ r. ⌜ (length (now (room .exit)) ≡ length (now (room .entry))) × byCall (λ s k. k ≡ doneOf s call) terms moment r period deadline share order awake arrived last rk rt wk wt slots ⌝ }
 {
     if call < 4294967296 {
+        let i = (call - 1) as usize;
         return whole::arrive_in(
             terms,
             moment,
-            (call - 1) as usize,
-            period,
-            exec,
-            deadline,
+            i,
             share,
-            order,
             awake,
             arrived,
             last,
@@ -59,17 +56,16 @@ fn held_call(
             slots,
         );
     }
+    let horizon = call - 4294967296;
     whole::step_in(
         terms,
         moment,
-        call - 4294967296,
+        horizon,
         period,
-        exec,
         deadline,
         share,
         order,
         awake,
-        arrived,
         last,
         rk,
         rt,
@@ -93,7 +89,6 @@ pub extern "C" fn held_calls(
     waiting: &mut usize,
     list: &[u64],
     period: &[u32; 128],
-    exec: &[u32; 128],
     deadline: &[u32; 128],
     share: &[u64; 128],
     order: &[u16; 128],
@@ -107,8 +102,10 @@ pub extern "C" fn held_calls(
     slots: &mut [u16; 16],
     room: &mut [u8],
 )
-    requires taken { ⌜ Whole (here (termsOf count m scale) (momentOf (now present) (now going) (now end) (now running) (now waiting)) period exec deadline share order awake arrived last rk rt wk wt slots) × AllTaken (here (termsOf count m scale) (momentOf (now present) (now going) (now end) (now running) (now waiting)) period exec deadline share order awake arrived last rk rt wk wt slots) (now list) × (48 ≤ length (now room)) ⌝ }
-    ensures is { λ _. ⌜ here (termsOf count m scale) (momentOf (now (present .exit)) (now (going .exit)) (now (end .exit)) (now (running .exit)) (now (waiting .exit))) (period .entry) (exec .entry) (deadline .entry) (share .entry) (order .entry) (awake .exit) (arrived .exit) (last .exit) (rk .exit) (rt .exit) (wk .exit) (wt .exit) (slots .exit) ≡ doneAll (here (termsOf count m scale) (momentOf (now (present .entry)) (now (going .entry)) (now (end .entry)) (now (running .entry)) (now (waiting .entry))) (period .entry) (exec .entry) (deadline .entry) (share .entry) (order .entry) (awake .entry) (arrived .entry) (last .entry) (rk .entry) (rt .entry) (wk .entry) (wt .entry) (slots .entry)) (now (list .entry)) ⌝ }
+    requires taken { ⌜ (48 ≤ length (now room)) × inCall (λ s. Whole s × AllTaken s (now list)) (termsOf count m scale) (momentHere present going end running waiting)
+        period deadline share order awake arrived last rk rt wk wt slots ⌝ }
+    ensures is { λ _. ⌜ byCall (λ s k. (Whole s → AllTaken s (now (list .entry)) → k ≡ doneAll s (now (list .entry)))) (termsOf count m scale)
+        (momentOld present going end running waiting) (momentNew present going end running waiting) period deadline share order awake arrived last rk rt wk wt slots ⌝ }
 {
     let terms = Terms {
         count: count,
@@ -122,19 +119,21 @@ pub extern "C" fn held_calls(
     let mut wait = *waiting;
     let mut i: usize = 0;
     while i < list.len() {
+        let lengths = Lengths {
+            running: run,
+            waiting: wait,
+        };
         let moment = Moment {
             now: at,
             going: is_going,
-            end: ends,
-            running: run,
-            waiting: wait,
+            end_tick: ends,
+            lengths: lengths,
         };
         let r = held_call(
             terms,
             moment,
             list[i],
             period,
-            exec,
             deadline,
             share,
             order,
@@ -148,11 +147,12 @@ pub extern "C" fn held_calls(
             slots,
             room,
         );
+        let n = r.lengths;
         at = r.now;
         is_going = r.going;
-        ends = r.end;
-        run = r.running;
-        wait = r.waiting;
+        ends = r.end_tick;
+        run = n.running;
+        wait = n.waiting;
         i += 1;
     }
     *present = at.0;
@@ -187,7 +187,7 @@ pub extern "C" fn held_check(
     wt: &[u16; 128],
     slots: &[u16; 16],
 ) -> bool
-    ensures is { λ r. ⌜ r ≡ holdsOf (here (termsOf count m scale) (momentOf present going end running waiting) (period .entry) (exec .entry) (deadline .entry) (share .entry) (order .entry) (awake .entry) (arrived .entry) (last .entry) (rk .entry) (rt .entry) (wk .entry) (wt .entry) (slots .entry)) ⌝ }
+    ensures is { λ r. ⌜ r ≡ holdsOf (old (termsOf count m scale) (momentOf present going end running waiting) period exec deadline share order awake arrived last rk rt wk wt slots) ⌝ }
 {
     holding::holds_lent(
         period,
