@@ -11,11 +11,11 @@ use lib.Seq.{drop-cons, drop-length}
 use Rattle.ground.specs.Tests.{if_then_else_}
 use Rattle.ground.proofs.Tests.{ltb-says, is-true, is-false}
 use Rattle.rules.proofs.Calls.{Comes}
-use Rattle.plane.specs.declared.State.{State}
-use Rattle.plane.specs.Machine.{movedOf, arrivedOf}
-use Rattle.plane.specs.View.{view}
-use Rattle.whole.specs.Whole.{Whole}
-use Rattle.whole.proofs.Keeping.{step-whole, arrive-whole}
+use Rattle.state.specs.declared.State.{State}
+use Rattle.state.specs.Machine.{movedOf, arrivedOf}
+use Rattle.state.specs.View.{view}
+use Rattle.moves.specs.Whole.{Whole}
+use Rattle.moves.proofs.Keeping.{step-whole, arrive-whole}
 use Rattle.bench_step.specs.Held.{Taken, doneOf, AllTaken, doneAll}
 
 module _ (s : State) (call : ℕ) where

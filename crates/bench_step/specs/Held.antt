@@ -5,9 +5,9 @@ use Prim.Native.Nat.{ℕ, _*_, _-_, _≤_, _<_}
 use lib.Dec.{ltb}
 use Rattle.ground.specs.Tests.{if_then_else_}
 use Rattle.rules.proofs.Calls.{Comes}
-use Rattle.plane.specs.declared.State.{State}
-use Rattle.plane.specs.Machine.{movedOf, arrivedOf}
-use Rattle.plane.specs.View.{view}
+use Rattle.state.specs.declared.State.{State}
+use Rattle.state.specs.Machine.{movedOf, arrivedOf}
+use Rattle.state.specs.View.{view}
 
 -- the call can be taken
 unfoldable pub Taken : State → ℕ → Type 0

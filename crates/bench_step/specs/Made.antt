@@ -4,7 +4,7 @@ use mathlib.Core.List.{List, foldl}
 use Prim.Native.Nat.{ℕ, _-_}
 use lib.Dec.{ltb}
 use Rattle.ground.specs.Tests.{if_then_else_}
-use Rattle.plane.specs.declared.State.{State}
+use Rattle.state.specs.declared.State.{State}
 use Rattle.calls.specs.Arrive.{arriveOf}
 use Rattle.calls.specs.Step.{stepOf}
 use Rattle.calls.specs.Run.{runOf}

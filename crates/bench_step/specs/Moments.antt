@@ -4,10 +4,10 @@ use Prim.Native.Nat.{ℕ}
 use denote.Ref.{RefT, now}
 use denote.Triple.Both.{Both}
 use Rattle.queue.specs.Lent.{Lent}
-use Rattle.plane.specs.declared.State.{State}
-use Rattle.whole.specs.declared.Terms.{Terms}
-use Rattle.whole.specs.declared.Moment.{Moment}
-use Rattle.whole.specs.Lent.{stateIn, Numbers, Flags, Marks}
+use Rattle.state.specs.declared.State.{State}
+use Rattle.moves.specs.declared.Terms.{Terms}
+use Rattle.moves.specs.declared.Moment.{Moment}
+use Rattle.moves.specs.Lent.{stateIn, Numbers, Flags, Marks}
 
 abbrev pub termsOf : ℕ → ℕ → ℕ → Terms
 termsOf count m scale = record { count = count; m = m; scale = scale }

@@ -3,19 +3,19 @@
 ghost use mathlib.Core.Path.{_≡_};
 ghost use Prim.Native.Nat.{ℕ, _*_, _<_, _≤_};
 ghost use lib.ListN.{length};
-ghost use Rattle.whole.specs.Whole.{Whole};
-ghost use Rattle.whole.specs.Lent.{old};
-ghost use Rattle.holding.specs.Holds.{holdsOf};
+ghost use Rattle.moves.specs.Whole.{Whole};
+ghost use Rattle.moves.specs.Lent.{old};
+ghost use Rattle.together.specs.Holds.{holdsOf};
 ghost use Rattle.calls.specs.Admit.{admitOf};
 ghost use Rattle.bench_step.specs.Moments.{termsOf, momentOf, momentHere, momentOld, momentNew, inCall, byCall};
 ghost use Rattle.bench_step.specs.Held.{Taken, doneOf, AllTaken, doneAll};
 ghost use Rattle.bench_step.specs.Made.{madeAll, EndsAt};
 ghost use Rattle.text.specs.Output.{Put, recordLines};
-use floor::Lengths;
 use ground::Instant;
-use plane::State;
-use whole::Moment;
-use whole::Terms;
+use moves::Moment;
+use moves::Terms;
+use plane::Lengths;
+use state::State;
 
 // One call in place: an arrival of this task, or from 4,294,967,296 on a step to the horizon that lies above.
 fn held_call(
@@ -41,7 +41,7 @@ fn held_call(
 {
     if call < 4294967296 {
         let i = (call - 1) as usize;
-        return whole::arrive_in(
+        return moves::arrive_in(
             terms,
             moment,
             i,
@@ -57,7 +57,7 @@ fn held_call(
         );
     }
     let horizon = call - 4294967296;
-    whole::step_in(
+    moves::step_in(
         terms,
         moment,
         horizon,
@@ -189,7 +189,7 @@ pub extern "C" fn held_check(
 ) -> bool
     ensures is { λ r. ⌜ r ≡ holdsOf (old (termsOf count m scale) (momentOf present going end running waiting) period exec deadline share order awake arrived last rk rt wk wt slots) ⌝ }
 {
-    holding::holds_lent(
+    together::holds_lent(
         period,
         exec,
         deadline,

@@ -9,7 +9,7 @@ use lib.Dec.{leb, ltb}
 use lib.ListN.{length, getD, drop}
 use Rattle.rules.specs.declared.Answer.{Answer}
 use Rattle.rules.specs.declared.Answer.the-variants.{Done, HorizonPastClock, HorizonNotLater, RoomTooShort, NotTogether}
-use Rattle.plane.specs.declared.State.{State}
+use Rattle.state.specs.declared.State.{State}
 use Rattle.calls.specs.declared.Arrived.{Arrived}
 use Rattle.calls.specs.declared.Stepped.{Stepped}
 use Rattle.rules.specs.State as Rules
@@ -22,11 +22,11 @@ use Rattle.rules.proofs.Jobs.{done-comes, by-answer}
 use Rattle.rules.proofs.Keeping.{not-both}
 use Rattle.rules.proofs.Refusing.{arrive-answers}
 use Rattle.rules.proofs.Standing.{facts}
-use Rattle.plane.specs.Machine.{arrivedOf, movedOf}
-use Rattle.plane.specs.View.{tasksAt, view}
-use Rattle.holding.specs.Holds.{holdsOf}
-use Rattle.whole.specs.Whole.{Whole}
-use Rattle.whole.proofs.Keeping.{task-at}
+use Rattle.state.specs.Machine.{arrivedOf, movedOf}
+use Rattle.state.specs.View.{tasksAt, view}
+use Rattle.together.specs.Holds.{holdsOf}
+use Rattle.moves.specs.Whole.{Whole}
+use Rattle.moves.proofs.Keeping.{task-at}
 use Rattle.rules.specs.Record.{recordBytes}
 use Rattle.calls.specs.declared.Ran.{Ran}
 use Rattle.calls.specs.Step.{movesAnswer, stepAnswerOf, stepOf, stepRoom}

@@ -9,10 +9,10 @@ use lib.Seq.{drop-drop, take-all, drop-length}
 use Rattle.rules.specs.Record.{recordBytes}
 use Rattle.ground.specs.Bytes.{pasted}
 use Rattle.ground.proofs.Bytes.{grown}
-use Rattle.plane.specs.declared.State.{State}
-use Rattle.plane.specs.Machine.{movedOf}
-use Rattle.whole.specs.Whole.{Whole}
-use Rattle.whole.proofs.Keeping.{step-whole}
+use Rattle.state.specs.declared.State.{State}
+use Rattle.state.specs.Machine.{movedOf}
+use Rattle.moves.specs.Whole.{Whole}
+use Rattle.moves.proofs.Keeping.{step-whole}
 use Rattle.calls.specs.Run.{Went, went, goesOn, filledBy}
 use Rattle.calls.proofs.Went.{goes-more, went-more, went-none, record-48}
 use Rattle.rules.specs.Bounds.{clock}

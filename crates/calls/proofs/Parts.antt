@@ -6,11 +6,11 @@ use Prim.Native.Nat.{ℕ}
 use lib.ListN.{replicate}
 use Rattle.queue.specs.declared.Queue.{Queue}
 use Rattle.table.specs.declared.Table.{Table}
-use Rattle.plane.specs.declared.State.{State}
-use Rattle.plane.specs.Machine.{noSlots}
-use Rattle.whole.specs.declared.Terms.{Terms}
-use Rattle.whole.specs.declared.Moment.{Moment}
-use Rattle.whole.specs.Lent.{stateIn}
+use Rattle.state.specs.declared.State.{State}
+use Rattle.state.specs.Machine.{noSlots}
+use Rattle.moves.specs.declared.Terms.{Terms}
+use Rattle.moves.specs.declared.Moment.{Moment}
+use Rattle.moves.specs.Lent.{stateIn}
 
 -- a state at instant 0 with these queues
 abbrev pub startWith : Table → Queue → Queue → State

@@ -8,7 +8,7 @@ use lib.Dec.{leb}
 use lib.ListN.{length, drop}
 use Rattle.rules.specs.declared.Answer.{Answer}
 use Rattle.rules.specs.declared.Answer.the-variants.{Done, TaskNumber, BetweenTicks, TooSoon}
-use Rattle.plane.specs.declared.State.{State}
+use Rattle.state.specs.declared.State.{State}
 use Rattle.rules.specs.State as Rules
 use Rattle.rules.specs.Calls as Rule
 use Rattle.ground.specs.Tests.{if_then_else_, Says}
@@ -23,12 +23,12 @@ use Rattle.rules.proofs.Calls.{Comes}
 use Rattle.rules.proofs.Jobs.{done-comes, by-answer}
 use Rattle.rules.proofs.Holding.{holds-says}
 use Rattle.rules.proofs.Refusing.{arrive-answers, step-answers}
-use Rattle.plane.specs.Machine.{tickAt, movedOf, arrivedOf}
-use Rattle.plane.specs.View.{tasksAt, view, Sized}
-use Rattle.holding.specs.Holds.{holdsOf}
-use Rattle.holding.proofs.Holding.{holding-says}
-use Rattle.whole.specs.Whole.{Whole}
-use Rattle.whole.proofs.Keeping.{tasks-count, task-at, step-whole, arrive-whole}
+use Rattle.state.specs.Machine.{tickAt, movedOf, arrivedOf}
+use Rattle.state.specs.View.{tasksAt, view, Sized}
+use Rattle.together.specs.Holds.{holdsOf}
+use Rattle.together.proofs.Holding.{holding-says}
+use Rattle.moves.specs.Whole.{Whole}
+use Rattle.moves.proofs.Keeping.{tasks-count, task-at, step-whole, arrive-whole}
 use Rattle.calls.specs.Arrive.{taskIn, wholeTick, soonAgain, arriveAnswerOf, arriveOf}
 use Rattle.calls.specs.Step.{movesAnswer, stepAnswerOf, stepOf, stepRoom}
 

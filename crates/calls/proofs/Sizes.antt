@@ -5,9 +5,9 @@ use denote.RattleType.{Valss, owns}
 use denote.Struct.Declared.{shape}
 use mathlib.Core.Path.{_≡_}
 use lib.ListN.{length}
-use Rattle.plane.proofs.State.{the-type}
-use Rattle.plane.specs.declared.State.{State}
-use Rattle.plane.specs.View.{Sized}
+use Rattle.state.proofs.State.{the-type}
+use Rattle.state.specs.declared.State.{State}
+use Rattle.state.specs.View.{Sized}
 
 pub sized : (s : State) (vs : Valss (shape the-type .fields)) → shadow (owns (shape the-type .fields) (the-type .to s) vs) → Sized s
 sized s vs g =

@@ -12,13 +12,13 @@ use Rattle.rules.proofs.Keeping.{not-both}
 use Rattle.ground.specs.Bytes.{le}
 use Rattle.ground.proofs.Bytes.{length-le}
 use Rattle.rules.specs.Record.{slotBytes, recordBytes}
-use Rattle.room.proofs.Slots.{length-slots}
-use Rattle.whole.proofs.Opening.{open-whole}
-use Rattle.plane.specs.declared.State.{State}
-use Rattle.plane.specs.Machine.{openedOf, moveTo, movedOf}
-use Rattle.whole.specs.Whole.{Whole}
-use Rattle.whole.proofs.Keeping.{step-whole}
-use Rattle.plane.specs.View.{view}
+use Rattle.record.proofs.Slots.{length-slots}
+use Rattle.moves.proofs.Opening.{open-whole}
+use Rattle.state.specs.declared.State.{State}
+use Rattle.state.specs.Machine.{openedOf, moveTo, movedOf}
+use Rattle.moves.specs.Whole.{Whole}
+use Rattle.moves.proofs.Keeping.{step-whole}
+use Rattle.state.specs.View.{view}
 use Rattle.rules.specs.State as Rules
 use Rattle.rules.proofs.Calls.{moving-moves}
 use Rattle.rules.specs.Answers.{isDone}

@@ -3,8 +3,8 @@ use mathlib.Core.List.{List}
 use Prim.Native.Nat.{ℕ}
 use Rattle.table.specs.declared.Tabled.{Tabled}
 use Rattle.table.specs.Tabled.{blankTable, tabledOf}
-use Rattle.plane.specs.declared.State.{State}
-use Rattle.whole.specs.Fresh.{freshState}
+use Rattle.state.specs.declared.State.{State}
+use Rattle.moves.specs.Fresh.{freshState}
 use Rattle.calls.specs.declared.Admitted.{Admitted}
 
 -- "a blank state": one fixed value, all zero

@@ -9,12 +9,12 @@ use Rattle.ground.specs.Tests.{if_then_else_}
 use Rattle.rules.specs.declared.Answer.{Answer}
 use Rattle.rules.specs.declared.Answer.the-variants.{Done, TaskNumber, BetweenTicks, TooSoon, NotTogether}
 use Rattle.rules.specs.Answers.{isDone}
-use Rattle.plane.specs.declared.State.{State}
+use Rattle.state.specs.declared.State.{State}
 use Rattle.rules.proofs.Calls.{Comes}
-use Rattle.plane.specs.Machine.{arrivedOf}
-use Rattle.plane.specs.View.{view}
-use Rattle.whole.specs.Whole.{Whole}
-use Rattle.holding.specs.Holds.{holdsOf}
+use Rattle.state.specs.Machine.{arrivedOf}
+use Rattle.state.specs.View.{view}
+use Rattle.moves.specs.Whole.{Whole}
+use Rattle.together.specs.Holds.{holdsOf}
 use Rattle.calls.specs.declared.Arrived.{Arrived}
 use Rattle.rules.specs.Bounds.{clock}
 

@@ -8,8 +8,8 @@ use Rattle.ground.specs.Tests.{if_then_else_}
 use Rattle.rules.specs.declared.Answer.{Answer}
 use Rattle.rules.specs.Answers.{isDone}
 use Rattle.rules.specs.Record.{recordBytes}
-use Rattle.plane.specs.declared.State.{State}
-use Rattle.plane.specs.Machine.{movedOf}
+use Rattle.state.specs.declared.State.{State}
+use Rattle.state.specs.Machine.{movedOf}
 use Rattle.calls.specs.declared.Stepped.{Stepped}
 use Rattle.calls.specs.Step.{stepAnswerOf, stepOf, stepRoom}
 use Rattle.calls.specs.declared.Ran.{Ran}

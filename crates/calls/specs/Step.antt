@@ -10,10 +10,10 @@ use Rattle.rules.specs.declared.Answer.{Answer}
 use Rattle.rules.specs.declared.Answer.the-variants.{Done, HorizonPastClock, HorizonNotLater, RoomTooShort, NotTogether}
 use Rattle.rules.specs.Answers.{isDone}
 use Rattle.rules.specs.Record.{recordBytes}
-use Rattle.plane.specs.declared.State.{State}
-use Rattle.plane.specs.Machine.{movedOf}
-use Rattle.whole.specs.Whole.{Whole}
-use Rattle.holding.specs.Holds.{holdsOf}
+use Rattle.state.specs.declared.State.{State}
+use Rattle.state.specs.Machine.{movedOf}
+use Rattle.moves.specs.Whole.{Whole}
+use Rattle.together.specs.Holds.{holdsOf}
 use Rattle.calls.specs.declared.Stepped.{Stepped}
 use Rattle.rules.specs.Bounds.{clock}
 

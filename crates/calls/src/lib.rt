@@ -2,26 +2,26 @@
 ghost use mathlib.Core.Path.{_≡_};
 ghost use mathlib.Core.Bool.{true};
 ghost use lib.ListN.{length};
-ghost use Rattle.whole.specs.Fresh.{freshState};
+ghost use Rattle.moves.specs.Fresh.{freshState};
 ghost use Rattle.calls.specs.Admit.{admitOf};
 ghost use Prim.Native.Nat.{_+_, _≤_};
 ghost use lib.Dec.{ltb};
 ghost use Rattle.calls.specs.Arrive.{comesBy, Dated, MayArrive, arriveOf};
-ghost use Rattle.whole.specs.Lent.{here, old};
-ghost use Rattle.plane.specs.View.{Sized};
+ghost use Rattle.moves.specs.Lent.{here, old};
+ghost use Rattle.state.specs.View.{Sized};
 ghost use Rattle.rules.specs.Answers.{isDone};
 ghost use Rattle.rules.specs.Bounds.{clock};
 ghost use Rattle.calls.specs.Step.{Checked, Ahead, MayStep, stepOf, stepRoom};
 ghost use Rattle.calls.specs.Run.{goesOn, runOf, runRoom};
-use floor::Lengths;
 use ground::Instant;
-use plane::Jobs;
-use plane::State;
+use moves::Moment;
+use moves::Terms;
+use plane::Lengths;
 use queue::Queue;
 use rules::Answer;
+use state::Jobs;
+use state::State;
 use table::Table;
-use whole::Moment;
-use whole::Terms;
 
 // What admission answers: the number, the row that it names or 0, the state.
 pub struct Admitted {
@@ -153,7 +153,7 @@ fn check(
 {
     let present = moment.now;
     let n = moment.lengths;
-    holding::holds_lent(
+    together::holds_lent(
         period,
         exec,
         deadline,
@@ -337,7 +337,7 @@ pub fn arrive(s: State, task: u64) -> Arrived
     );
     let mut r = moment;
     if table::is_done(answer) {
-        r = whole::arrive_in(
+        r = moves::arrive_in(
             terms,
             moment,
             (task - 1) as usize,
@@ -443,7 +443,7 @@ pub fn step(s: State, horizon: u64, room: &mut [u8]) -> Stepped
     );
     let mut r = moment;
     if table::is_done(answer) {
-        r = whole::step_in(
+        r = moves::step_in(
             terms,
             moment,
             horizon,
@@ -575,7 +575,7 @@ pub fn run(s: State, horizon: u64, room: &mut [u8]) -> Ran
     let mut records: usize = 0;
     while goes_on(left, r.now, stop) {
         let start = records * rules::RECORD_SIZE;
-        r = whole::step_in(
+        r = moves::step_in(
             terms,
             r,
             horizon,

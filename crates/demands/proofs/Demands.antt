@@ -9,7 +9,7 @@ use lib.Dec.{leb, ltb}
 use lib.ListN.{length, take, drop, length-replicate}
 use Rattle.rules.specs.declared.Answer.{Answer}
 use Rattle.rules.specs.declared.Answer.the-variants.{Done, Processors, TableLength, RowRange, RowExecution, Scale, Shares, TaskNumber, BetweenTicks, TooSoon, HorizonPastClock, HorizonNotLater, RoomTooShort, NotTogether, TextForm}
-use Rattle.plane.specs.declared.State.{State}
+use Rattle.state.specs.declared.State.{State}
 use Rattle.rules.specs.State as Rules
 use Rattle.rules.specs.Run as Rule
 use Rattle.rules.specs.Calls as RuleCalls
@@ -32,14 +32,14 @@ use Rattle.rules.proofs.Keeping.{not-both}
 use Rattle.rules.proofs.Refusing.{step-answers, admit-answers}
 use Rattle.table.specs.Tabled.{tableFrom, blankTable, tabledOf}
 use Rattle.table.proofs.Admitted.{tabled-refused, tabled-done}
-use Rattle.plane.specs.Machine.{tickAt, movedOf, arrivedOf}
-use Rattle.plane.specs.View.{tasksAt, view, Sized}
-use Rattle.holding.specs.Holds.{holdsOf}
-use Rattle.holding.proofs.Holding.{holding-says}
-use Rattle.whole.specs.Fresh.{freshState}
-use Rattle.whole.specs.Whole.{Whole}
-use Rattle.whole.proofs.Fresh.{fresh-view, fresh-sound, fresh-whole}
-use Rattle.whole.proofs.Keeping.{sized-by}
+use Rattle.state.specs.Machine.{tickAt, movedOf, arrivedOf}
+use Rattle.state.specs.View.{tasksAt, view, Sized}
+use Rattle.together.specs.Holds.{holdsOf}
+use Rattle.together.proofs.Holding.{holding-says}
+use Rattle.moves.specs.Fresh.{freshState}
+use Rattle.moves.specs.Whole.{Whole}
+use Rattle.moves.proofs.Fresh.{fresh-view, fresh-sound, fresh-whole}
+use Rattle.moves.proofs.Keeping.{sized-by}
 use Rattle.calls.specs.Admit.{blankState, admitOf}
 use Rattle.calls.specs.Arrive.{taskIn, wholeTick, soonAgain, arriveAnswerOf, arriveOf}
 use Rattle.demands.specs.Demands.{OneOf, callingAll, starting, seen}

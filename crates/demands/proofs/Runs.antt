@@ -9,7 +9,7 @@ use lib.ListN.{length, drop, replicate, length-replicate}
 use lib.Seq.{take-at, drop-at}
 use Rattle.rules.specs.declared.Answer.{Answer}
 use Rattle.rules.specs.declared.Answer.the-variants.{Done, HorizonNotLater}
-use Rattle.plane.specs.declared.State.{State}
+use Rattle.state.specs.declared.State.{State}
 use Rattle.ground.specs.Tests.{if_then_else_, Says}
 use Rattle.ground.proofs.Tests.{ltb-says}
 use Rattle.rules.specs.Answers.{isDone}
@@ -18,13 +18,13 @@ use Rattle.rules.specs.Record.{Record, recordBytes, readRecord}
 use Rattle.rules.specs.Reasons.{StepReason}
 use Rattle.rules.proofs.Jobs.{by-answer}
 use Rattle.rules.proofs.Refusing.{step-exact, step-answers}
-use Rattle.plane.specs.Machine.{movedOf}
-use Rattle.plane.specs.View.{view}
+use Rattle.state.specs.Machine.{movedOf}
+use Rattle.state.specs.View.{view}
 use Rattle.calls.specs.Run.{Went, went, steps, goesOn, runOf, runRoom}
 use Rattle.demands.specs.Demands.{Calls, calling, callingAll, runCall, readRecords, oneStep}
 use Rattle.calls.specs.Step.{stepAnswerOf, stepOf, stepRoom}
-use Rattle.whole.specs.Whole.{Whole}
-use Rattle.whole.proofs.Keeping.{step-whole}
+use Rattle.moves.specs.Whole.{Whole}
+use Rattle.moves.proofs.Keeping.{step-whole}
 use Rattle.calls.proofs.Refining.{step-same}
 use Rattle.calls.proofs.Went.{goes-none, goes-more, went-more, went-none, by-going, record-48}
 use Rattle.rules.specs.Bounds.{clock}

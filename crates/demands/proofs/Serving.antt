@@ -9,7 +9,7 @@ use native.Mathlib.Omega.{arith}
 use lib.ListN.{length, replicate}
 use Rattle.rules.specs.declared.Answer.{Answer}
 use Rattle.rules.specs.declared.Answer.the-variants.{Done}
-use Rattle.plane.specs.declared.State.{State}
+use Rattle.state.specs.declared.State.{State}
 use Rattle.rules.specs.State as Rules
 use Rattle.rules.specs.Calls as Rule
 use Rattle.rules.specs.Run as Runs
@@ -21,13 +21,13 @@ use Rattle.rules.specs.Table.{Row}
 use Rattle.rules.specs.History.{In, Within}
 use Rattle.rules.proofs.Jobs.{Good, perform-good}
 use Rattle.rules.proofs.Demands.{Manned, manned-on, next-of}
-use Rattle.plane.specs.Machine.{tickAt}
-use Rattle.plane.specs.View.{view}
+use Rattle.state.specs.Machine.{tickAt}
+use Rattle.state.specs.View.{view}
 use Rattle.demands.specs.Demands.{Call, arriveCall, stepCall, runCall, Calls, calling, callingAll, seen, NextOf, oneStep}
 use Rattle.calls.specs.Arrive.{arriveOf}
 use Rattle.calls.specs.Step.{stepOf, stepRoom}
 use Rattle.calls.specs.Run.{runOf}
-use Rattle.whole.specs.Whole.{Whole}
+use Rattle.moves.specs.Whole.{Whole}
 use Rattle.calls.proofs.Refining.{arrive-same, step-same, arrive-kept, step-kept}
 use Rattle.demands.proofs.Runs.{run-called}
 

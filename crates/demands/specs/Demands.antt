@@ -16,10 +16,10 @@ use Rattle.rules.specs.Calls.{arrive, step}
 use Rattle.rules.specs.Run.{Arrival, Run}
 use Rattle.rules.specs.Demands.{Job, Course, Next, Untouched}
 use Rattle.rules.specs.Figures.{tableP1, line}
-use Rattle.plane.specs.declared.State.{State}
-use Rattle.plane.specs.Machine.{tickAt}
-use Rattle.plane.specs.View.{tasksAt, view, Sized}
-use Rattle.holding.specs.Holds.{Holding, holdsOf}
+use Rattle.state.specs.declared.State.{State}
+use Rattle.state.specs.Machine.{tickAt}
+use Rattle.state.specs.View.{tasksAt, view, Sized}
+use Rattle.together.specs.Holds.{Holding, holdsOf}
 use Rattle.calls.specs.declared.Arrived.{Arrived}
 use Rattle.calls.specs.declared.Stepped.{Stepped}
 use Rattle.calls.specs.declared.Admitted.{Admitted}

@@ -4,7 +4,7 @@ ghost use Prim.Native.Nat.{_*_, _≤_};
 ghost use lib.ListN.{length};
 use crate::numbers::at_most;
 use crate::numbers::plus;
-use plane::State;
+use state::State;
 
 // One arrival in so many is called, or with 0 each as soon as it may; a horizon lies 1 to `stride` ticks ahead; so many
 // horizons; by step or by run.

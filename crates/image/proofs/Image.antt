@@ -11,8 +11,8 @@ use lib.Seq.{drop-cons, getD-take, getD-drop}
 use Rattle.ground.specs.Bytes.{le, number}
 use Rattle.ground.specs.Tests.{Says, every}
 use Rattle.ground.proofs.Tests.{leb-says, eqb-says, and-says, every-says, is-true, is-false, of-true}
-use Rattle.plane.specs.declared.State.{State}
-use Rattle.plane.specs.View.{Sized}
+use Rattle.state.specs.declared.State.{State}
+use Rattle.state.specs.View.{Sized}
 use Rattle.image.specs.Columns.{columnBytes, cellsAt, bytesBy, columnsBy, spanOf, Fitting, Bytes}
 use Rattle.image.specs.Image.{layout, bit, flag, wordsOf, columnsOf, imageOf, wordAt, tableAt, jobsAt, stateAt, isImage, Fitted, OneToOne}
 use Rattle.image.proofs.Columns.{length-cells, columns-back, length-bytes, drop-bytes, bytes-columns, columns-fit, cells-one}

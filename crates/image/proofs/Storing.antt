@@ -6,7 +6,7 @@ use native.Mathlib.Omega.{arith}
 use lib.ListN.{length, length-append, length-map, drop-of-length-le}
 use Rattle.ground.specs.Bytes.{pasted}
 use Rattle.ground.proofs.Bytes.{paste-then}
-use Rattle.plane.specs.declared.State.{State}
+use Rattle.state.specs.declared.State.{State}
 use Rattle.image.specs.Columns.{columnBytes, bytesBy, Fitting}
 use Rattle.image.specs.Image.{bit, layout, columnsOf, wordsOf, imageOf, Fitted}
 use Rattle.image.proofs.Columns.{length-column}

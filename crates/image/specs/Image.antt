@@ -9,8 +9,8 @@ use Rattle.ground.specs.Bytes.{number}
 use Rattle.ground.specs.Tests.{every}
 use Rattle.table.specs.declared.Table.{Table}
 use Rattle.queue.specs.declared.Queue.{Queue}
-use Rattle.plane.specs.declared.Jobs.{Jobs}
-use Rattle.plane.specs.declared.State.{State}
+use Rattle.state.specs.declared.Jobs.{Jobs}
+use Rattle.state.specs.declared.State.{State}
 use Rattle.image.specs.Columns.{Shape, shape, cellsAt, bytesBy, Fitting, Bytes}
 
 -- the columns' widths and lengths; where they begin:

@@ -7,9 +7,9 @@ ghost use Rattle.ground.specs.Bytes.{pasted};
 ghost use Rattle.image.specs.Columns.{columnBytes, cellsAt};
 ghost use Rattle.image.specs.Image.{bit, flag, isImage, queueAt, tableAt, jobsAt, stateAt, imageOf, Fitted};
 use ground::Instant;
-use plane::Jobs;
-use plane::State;
 use queue::Queue;
+use state::Jobs;
+use state::State;
 use table::Table;
 
 // COLUMNS

@@ -10,7 +10,7 @@ use Rattle.rules.specs.declared.Answer.{Answer}
 use Rattle.rules.specs.declared.Answer.the-variants.{Done}
 use Rattle.rules.specs.Answers.{isDone}
 use Rattle.rules.proofs.Keeping.{not-both}
-use Rattle.plane.specs.declared.State.{State}
+use Rattle.state.specs.declared.State.{State}
 use Rattle.calls.specs.declared.Ran.{Ran}
 use Rattle.calls.specs.Run.{went, runOf, runRoom}
 use Rattle.calls.specs.Step.{Ahead, stepAnswerOf}

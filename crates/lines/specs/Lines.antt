@@ -4,7 +4,7 @@ use mathlib.Core.List.{List}
 use Prim.Native.Nat.{ℕ, _*_, _<_}
 use lib.ListN.{replicate}
 use Rattle.rules.specs.declared.Answer.the-variants.{Done}
-use Rattle.plane.specs.declared.State.{State}
+use Rattle.state.specs.declared.State.{State}
 use Rattle.calls.specs.Run.{runOf, runRoom}
 use Rattle.text.specs.Output.{Put, recordLines}
 use Rattle.lines.specs.declared.Lines.{Lines}

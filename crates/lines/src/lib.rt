@@ -2,8 +2,8 @@
 ghost use mathlib.Core.Path.{_≡_};
 ghost use Rattle.text.specs.Output.{Counts};
 ghost use Rattle.lines.specs.Lines.{RunLines};
-use plane::State;
 use rules::Answer;
+use state::State;
 
 // What a run leaves: its answer, the state, how many bytes its lines have.
 pub struct Lines {

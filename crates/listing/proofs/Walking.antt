@@ -11,7 +11,7 @@ use Rattle.ground.proofs.Tests.{ltb-says}
 use Rattle.rules.specs.declared.Answer.{Answer}
 use Rattle.rules.specs.declared.Answer.the-variants.{Done}
 use Rattle.rules.specs.Answers.{isDone}
-use Rattle.plane.specs.declared.State.{State}
+use Rattle.state.specs.declared.State.{State}
 use Rattle.calls.proofs.Answering.{done-is}
 use Rattle.text.specs.declared.Checked.{Checked}
 use Rattle.text.specs.declared.Checked.the-variants.{Broken}

@@ -1,7 +1,7 @@
 -- A run that goes on
 use mathlib.Core.Path.{_≡_}
 use Prim.Native.Nat.{ℕ, _*_, _<_}
-use Rattle.plane.specs.declared.State.{State}
+use Rattle.state.specs.declared.State.{State}
 
 -- the present moved on from before the tick
 pub record Onward (s : State) (tick : ℕ) (after : State) : Type 0 where

@@ -7,8 +7,8 @@ ghost use Rattle.text.specs.Form.{formOf};
 ghost use Rattle.listing.specs.Onward.{Onward};
 ghost use Rattle.listing.specs.Good.{isGood};
 use libc::STDOUT_FILENO;
-use plane::State;
 use rules::Answer;
+use state::State;
 use text::Checked;
 use text::Item;
 

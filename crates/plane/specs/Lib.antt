@@ -1,5 +1,2 @@
-pub mod Work
-pub mod Machine
-pub mod View
-pub mod Sound
-pub mod Fit
+pub mod Lent
+pub mod Rows

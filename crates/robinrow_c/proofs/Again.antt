@@ -9,9 +9,9 @@ use Rattle.rules.specs.declared.Answer.{Answer}
 use Rattle.rules.specs.declared.Answer.the-variants.{NotTogether}
 use Rattle.rules.specs.Answers.{numberOf, isDone}
 use Rattle.rules.proofs.Keeping.{not-both}
-use Rattle.plane.specs.declared.State.{State}
-use Rattle.plane.specs.View.{Sized}
-use Rattle.holding.specs.Holds.{holdsOf}
+use Rattle.state.specs.declared.State.{State}
+use Rattle.state.specs.View.{Sized}
+use Rattle.together.specs.Holds.{holdsOf}
 use Rattle.image.specs.Image.{imageOf, stateAt, isImage, Fitted}
 use Rattle.image.proofs.Image.{image-reads, image-is}
 use Rattle.calls.specs.Admit.{admitOf}

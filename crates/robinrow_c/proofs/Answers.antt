@@ -12,7 +12,7 @@ use Rattle.rules.specs.Reasons.{AdmitReason}
 use Rattle.rules.proofs.Refusing.{admit-answers}
 use Rattle.rules.proofs.Keeping.{not-both}
 use Rattle.table.proofs.Admitted.{rows-of-length}
-use Rattle.plane.specs.declared.State.{State}
+use Rattle.state.specs.declared.State.{State}
 use Rattle.calls.specs.Admit.{admitOf}
 use Rattle.calls.specs.Run.{runOf}
 use Rattle.demands.proofs.Demands.{admits}

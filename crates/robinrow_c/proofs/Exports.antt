@@ -10,7 +10,7 @@ use lib.ListN.{length, take, drop, length-take, drop-of-length-le}
 use lib.Seq.{take-all}
 use Rattle.ground.proofs.Tests.{eqb-says, is-true, is-false, of-true}
 use Rattle.rules.specs.Answers.{numberOf, isDone}
-use Rattle.plane.specs.declared.State.{State}
+use Rattle.state.specs.declared.State.{State}
 use Rattle.image.specs.Image.{imageOf, stateAt, isImage, Fitted}
 use Rattle.image.proofs.Image.{image-says, image-sized}
 use Rattle.calls.specs.declared.Admitted.{Admitted}

@@ -13,7 +13,7 @@ use Rattle.rules.specs.declared.Answer.{Answer}
 use Rattle.rules.specs.declared.Answer.the-variants.{Done}
 use Rattle.rules.specs.Answers.{isDone}
 use Rattle.rules.proofs.Keeping.{not-both}
-use Rattle.plane.specs.declared.State.{State}
+use Rattle.state.specs.declared.State.{State}
 use Rattle.image.specs.Columns.{columnBytes, bytesBy}
 use Rattle.image.specs.Image.{layout, columnsOf, wordsOf, imageOf, stateAt, isImage}
 use Rattle.calls.specs.Admit.{blankState, admitOf}

@@ -9,9 +9,9 @@ use Rattle.ground.specs.Tests.{if_then_else_}
 use Rattle.rules.specs.declared.Answer.{Answer}
 use Rattle.rules.specs.declared.Answer.the-variants.{Done, NotTogether}
 use Rattle.rules.specs.Answers.{numberOf, isDone}
-use Rattle.plane.specs.declared.State.{State}
+use Rattle.state.specs.declared.State.{State}
 use Rattle.image.specs.Image.{imageOf, stateAt, isImage}
-use Rattle.holding.specs.Holds.{holdsOf}
+use Rattle.together.specs.Holds.{holdsOf}
 use Rattle.calls.specs.Admit.{admitOf}
 use Rattle.calls.specs.Arrive.{arriveOf}
 use Rattle.calls.specs.Step.{stepOf, stepRoom}

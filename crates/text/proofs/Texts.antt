@@ -1,4 +1,4 @@
--- Texts of the vectors, computed
+-- Texts, computed
 use mathlib.Core.Path.{_≡_, refl}
 use mathlib.Core.List.{List, [], _∷_}
 use Prim.Native.Nat.{ℕ}

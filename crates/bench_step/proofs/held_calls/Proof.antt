@@ -4,9 +4,9 @@ use mathlib.Core.Path.{_≡_, refl, _∙_}
 use Prim.Native.Nat.{_-_}
 use native.Mathlib.Omega.{arith}
 use lib.ListN.{length}
-use Rattle.plane.specs.declared.State.{State}
-use Rattle.whole.specs.Lent.{stateIn}
-use Rattle.whole.specs.Whole.{Whole}
+use Rattle.state.specs.declared.State.{State}
+use Rattle.moves.specs.Lent.{stateIn}
+use Rattle.moves.specs.Whole.{Whole}
 use Rattle.bench_step.specs.Held.{AllTaken}
 use Rattle.bench_step.specs.Moments.{termsOf, momentOf}
 use Rattle.bench_step.proofs.Doing.{Doing, doing-from, doing-taken, doing-on, doing-end}

@@ -1,8 +1,8 @@
 use borrow.Author.Needs.{needs}
 use mathlib.Core.Path.{_≡_, _∙_, ap}
-use Rattle.plane.specs.declared.State.{State}
+use Rattle.state.specs.declared.State.{State}
 use Rattle.table.specs.declared.Tabled.{Tabled}
-use Rattle.whole.specs.Fresh.{freshState}
+use Rattle.moves.specs.Fresh.{freshState}
 use Rattle.calls.specs.declared.Admitted.{Admitted}
 use Rattle.calls.specs.Admit.{admitOf}
 use Rattle.calls.proofs.admit.Statement.{statement}

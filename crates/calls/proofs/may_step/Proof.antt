@@ -5,7 +5,7 @@ use Prim.Native.Nat.{_*_, _<_, _≤_}
 use native.Mathlib.Omega.{arith}
 use Rattle.rules.specs.Answers.{isDone}
 use Rattle.rules.proofs.Keeping.{not-both}
-use Rattle.whole.proofs.Moving.{stop-fits}
+use Rattle.moves.proofs.Moving.{stop-fits}
 use Rattle.calls.proofs.Answering.{answer-13, answer-12, answer-10, answer-11, answer-0}
 use Rattle.calls.proofs.may_step.Statement.{statement}
 use Rattle.calls.proofs.may_step.Tie as tie

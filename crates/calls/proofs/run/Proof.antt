@@ -5,8 +5,8 @@ use mathlib.Core.Path.{sym, _∙_}
 use Prim.Native.Nat.{_*_}
 use native.Mathlib.Omega.{arith}
 use lib.ListN.{length-drop}
-use Rattle.whole.specs.Lent.{stateIn}
-use Rattle.whole.proofs.Moving.{stop-fits}
+use Rattle.moves.specs.Lent.{stateIn}
+use Rattle.moves.proofs.Moving.{stop-fits}
 use Rattle.calls.proofs.Answering.{run-no, run-yes}
 use Rattle.calls.proofs.Went.{goes-more}
 use Rattle.calls.proofs.Going.{Going, going-from, going-length, going-room, going-on, going-end}

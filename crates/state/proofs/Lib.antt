@@ -1,0 +1,17 @@
+pub mod Amounts
+pub mod Shows
+pub mod Seats
+pub mod Moves
+pub mod Counts
+pub mod Frame
+pub mod Giving
+pub mod Seizing
+pub mod Passing
+pub mod Views
+pub mod Closing
+pub mod Opening
+pub mod Step
+pub mod Arriving
+pub mod Marks
+pub mod Sound
+pub mod Fit

@@ -1,0 +1,5 @@
+pub mod Work
+pub mod Machine
+pub mod View
+pub mod Sound
+pub mod Fit
