@@ -10,7 +10,7 @@ use lib.ListN.{length, getD, drop}
 use lib.Seq.{drop-cons, drop-length}
 use Rattle.ground.specs.Tests.{if_then_else_}
 use Rattle.ground.proofs.Tests.{ltb-says, is-true, is-false}
-use Rattle.rules.proofs.Calls.{Comes}
+use Rattle.rules.specs.Reasons.{Comes}
 use Rattle.state.specs.declared.State.{State}
 use Rattle.state.specs.Machine.{movedOf, arrivedOf}
 use Rattle.state.specs.View.{view}

@@ -4,7 +4,7 @@ use mathlib.Core.List.{List, [], _∷_}
 use Prim.Native.Nat.{ℕ, _*_, _-_, _≤_, _<_}
 use lib.Dec.{ltb}
 use Rattle.ground.specs.Tests.{if_then_else_}
-use Rattle.rules.proofs.Calls.{Comes}
+use Rattle.rules.specs.Reasons.{Comes}
 use Rattle.state.specs.declared.State.{State}
 use Rattle.state.specs.Machine.{movedOf, arrivedOf}
 use Rattle.state.specs.View.{view}

@@ -1,7 +1,7 @@
 pub mod Parts
 pub mod Sizes
 pub mod Refining
-pub mod Went
-pub mod Going
-pub mod Coming
+pub mod RunSteps
+pub mod RunLoop
+pub mod ArriveReasons
 pub mod Answering

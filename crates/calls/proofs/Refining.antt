@@ -16,10 +16,9 @@ use Rattle.ground.proofs.Tests.{leb-says, and-says, is-true, of-true}
 use Rattle.rules.specs.Answers.{isDone}
 use Rattle.rules.specs.Calls.{moving}
 use Rattle.rules.specs.Holds.{holds}
-use Rattle.rules.specs.Reasons.{ArriveReason, StepReason}
+use Rattle.rules.specs.Reasons.{ArriveReason, StepReason, Comes}
 use Rattle.rules.specs.Record.{Record, recordBytes}
 use Rattle.rules.specs.State.{Task, at}
-use Rattle.rules.proofs.Calls.{Comes}
 use Rattle.rules.proofs.Jobs.{done-comes, by-answer}
 use Rattle.rules.proofs.Holding.{holds-says}
 use Rattle.rules.proofs.Refusing.{arrive-answers, step-answers}

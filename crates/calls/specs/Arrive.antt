@@ -10,7 +10,7 @@ use Rattle.rules.specs.declared.Answer.{Answer}
 use Rattle.rules.specs.declared.Answer.the-variants.{Done, TaskNumber, BetweenTicks, TooSoon, NotTogether}
 use Rattle.rules.specs.Answers.{isDone}
 use Rattle.state.specs.declared.State.{State}
-use Rattle.rules.proofs.Calls.{Comes}
+use Rattle.rules.specs.Reasons.{Comes}
 use Rattle.state.specs.Machine.{arrivedOf}
 use Rattle.state.specs.View.{view}
 use Rattle.moves.specs.Whole.{Whole}

@@ -21,7 +21,7 @@ use Rattle.rules.specs.Answers.{numberOf, isDone}
 use Rattle.rules.specs.Reasons.{AdmitReason, StepReason}
 use Rattle.rules.specs.Record.{Record, recordBytes}
 use Rattle.rules.specs.Computed.{computed}
-use Rattle.rules.specs.Figures.{tableP1, towards, line, listing}
+use Rattle.rules.specs.Listings.{tableP1, towards, line, listing}
 use Rattle.rules.proofs.Figures.{figures}
 use Rattle.rules.specs.Table.{rowsOf, tableBytes}
 use Rattle.rules.proofs.Jobs.{by-answer, Good}
@@ -48,7 +48,7 @@ use Rattle.calls.specs.Step.{movesAnswer, stepAnswerOf, stepOf, stepRoom}
 use Rattle.calls.proofs.Refining.{arrive-kept, arrive-same, holds-whole, step-kept, step-same, whole-holds}
 use Rattle.demands.proofs.Runs.{run-steps}
 use Rattle.demands.proofs.Serving.{Followed, plain, all-together, calls-followed, seen-good, seen-within, seen-next, taken-in}
-use Rattle.calls.proofs.Went.{went-whole}
+use Rattle.calls.proofs.RunSteps.{went-whole}
 use Rattle.rules.specs.Bounds.{clock}
 
 -- EACH CALL IS THE RULES' CALL

@@ -26,7 +26,7 @@ use Rattle.calls.specs.Step.{stepAnswerOf, stepOf, stepRoom}
 use Rattle.moves.specs.Whole.{Whole}
 use Rattle.moves.proofs.Keeping.{step-whole}
 use Rattle.calls.proofs.Refining.{step-same}
-use Rattle.calls.proofs.Went.{goes-none, goes-more, went-more, went-none, by-going, record-48}
+use Rattle.calls.proofs.RunSteps.{goes-none, goes-more, went-more, went-none, by-going, record-48}
 use Rattle.rules.specs.Bounds.{clock}
 
 -- with a horizon that lies ahead, step does not refuse; with one that does not, it refuses by 11

@@ -15,7 +15,7 @@ use Rattle.rules.specs.Record.{Record, readRecord}
 use Rattle.rules.specs.Calls.{arrive, step}
 use Rattle.rules.specs.Run.{Arrival, Run}
 use Rattle.rules.specs.Demands.{Job, Course, Next, Untouched}
-use Rattle.rules.specs.Figures.{tableP1, line}
+use Rattle.rules.specs.Listings.{tableP1, line}
 use Rattle.state.specs.declared.State.{State}
 use Rattle.state.specs.Machine.{tickAt}
 use Rattle.state.specs.View.{tasksAt, view, Sized}

@@ -268,7 +268,8 @@ fn store_rows(
     share: &[u64; 128],
 )
     requires fits { ⌜ (length (now bytes) ≡ 6745) × (length (now period) ≡ 128) × (length (now exec) ≡ 128) × (length (now deadline) ≡ 128) × (length (now share) ≡ 128) ⌝ }
-    ensures is { λ _. ⌜ now (bytes .exit) ≡ pasted (now (bytes .entry)) 0 (columnBytes 4 (now (period .entry)) ++ columnBytes 4 (now (exec .entry)) ++ columnBytes 4 (now (deadline .entry)) ++ columnBytes 8 (now (share .entry))) ⌝ }
+    ensures is { λ _. ⌜ now (bytes .exit) ≡ pasted (now (bytes .entry)) 0
+        (columnBytes 4 (now (period .entry)) ++ columnBytes 4 (now (exec .entry)) ++ columnBytes 4 (now (deadline .entry)) ++ columnBytes 8 (now (share .entry))) ⌝ }
 {
     put32s(bytes, 0, period);
     put32s(bytes, 512, exec);
@@ -295,7 +296,8 @@ fn store_tasks(
     slots: &[u16; 16],
 )
     requires fits { ⌜ (length (now bytes) ≡ 6745) × (length (now order) ≡ 128) × (length (now rt) ≡ 128) × (length (now wt) ≡ 128) × (length (now slots) ≡ 16) ⌝ }
-    ensures is { λ _. ⌜ now (bytes .exit) ≡ pasted (now (bytes .entry)) 5632 (columnBytes 2 (now (order .entry)) ++ columnBytes 2 (now (rt .entry)) ++ columnBytes 2 (now (wt .entry)) ++ columnBytes 2 (now (slots .entry))) ⌝ }
+    ensures is { λ _. ⌜ now (bytes .exit) ≡ pasted (now (bytes .entry)) 5632
+        (columnBytes 2 (now (order .entry)) ++ columnBytes 2 (now (rt .entry)) ++ columnBytes 2 (now (wt .entry)) ++ columnBytes 2 (now (slots .entry))) ⌝ }
 {
     put16s(bytes, 5632, order);
     put16s(bytes, 5888, rt);
@@ -306,7 +308,8 @@ fn store_tasks(
 // The flags, bytes 6488 to the end.
 fn store_flags(bytes: &mut [u8], awake: &[bool; 128], arrived: &[bool; 128], going: bool)
     requires fits { ⌜ (length (now bytes) ≡ 6745) × (length (now awake) ≡ 128) × (length (now arrived) ≡ 128) ⌝ }
-    ensures is { λ _. ⌜ now (bytes .exit) ≡ pasted (now (bytes .entry)) 6488 (columnBytes 1 (map bit (now (awake .entry))) ++ columnBytes 1 (map bit (now (arrived .entry))) ++ columnBytes 1 (bit going ∷ [])) ⌝ }
+    ensures is { λ _. ⌜ now (bytes .exit) ≡ pasted (now (bytes .entry)) 6488
+        (columnBytes 1 (map bit (now (awake .entry))) ++ columnBytes 1 (map bit (now (arrived .entry))) ++ columnBytes 1 (bit going ∷ [])) ⌝ }
 {
     put_flags(bytes, 6488, awake);
     put_flags(bytes, 6616, arrived);

@@ -14,7 +14,7 @@ use Rattle.state.specs.declared.State.{State}
 use Rattle.calls.specs.declared.Ran.{Ran}
 use Rattle.calls.specs.Run.{went, runOf, runRoom}
 use Rattle.calls.specs.Step.{Ahead, stepAnswerOf}
-use Rattle.calls.proofs.Went.{run-later}
+use Rattle.calls.proofs.RunSteps.{run-later}
 use Rattle.calls.proofs.Answering.{done-is}
 use Rattle.text.specs.Output.{Put, recordLines}
 use Rattle.lines.specs.Lines.{space, RunLines}

@@ -12,7 +12,8 @@ use Rattle.state.specs.declared.State.{State}
 use Rattle.rules.specs.State as Rules
 use Rattle.ground.specs.Tests.{if_then_else_}
 use Rattle.rules.specs.State.{on}
-use Rattle.rules.proofs.Calls.{Comes, comes-asleep}
+use Rattle.rules.proofs.Calls.{comes-asleep}
+use Rattle.rules.specs.Reasons.{Comes}
 use Rattle.rules.proofs.Keeping.{Running, running-stands}
 use Rattle.rules.proofs.Standing.{facts}
 use Rattle.queue.specs.Heap.{below}

@@ -1,18 +1,15 @@
 -- An admitted table's state at instant 0 is whole, and shows the rules' first state
 use mathlib.Core.Path.{_≡_, refl, sym, _∙_, ap, subst}
-use mathlib.Core.Bool.{Bool, true, false}
-use mathlib.Core.Option.{Option, none, some}
+use mathlib.Core.Bool.{Bool, false}
+use mathlib.Core.Option.{none}
 use mathlib.Core.List.{List, [], _∷_, map}
-use Prim.Native.Nat.{ℕ, zero, suc, _+_, _*_, _≤_, _<_}
+use Prim.Native.Nat.{ℕ, suc, _+_, _*_, _≤_, _<_}
 use native.Mathlib.Omega.{arith}
-use lib.ListN.{length, getD, take, replicate, length-map, length-replicate, List·getD-map}
+use lib.ListN.{length, getD, take, replicate, length-map, length-replicate}
 use lib.Seq.{ext-getD}
 use Rattle.table.specs.declared.Table.{Table}
-use Rattle.state.specs.declared.State.{State}
 use Rattle.rules.specs.State as Rules
 use Rattle.ground.proofs.Ranges.{at-up, all-one}
-use Rattle.rules.specs.Calls.{arrive}
-use Rattle.rules.specs.Figures.{row}
 use Rattle.rules.specs.Planes.{falling, sharesOf}
 use Rattle.rules.specs.Scale.{scaleOf, shareOf}
 use Rattle.rules.specs.State.{noRow, nobody}
@@ -28,7 +25,7 @@ use Rattle.table.proofs.Admitted.{rows-in-table, share-in-table, order-in-table
 use Rattle.table.proofs.Padding.{padded-take, padded-length}
 use Rattle.state.specs.Machine.{workOf, noSlots}
 use Rattle.state.specs.View.{Sound, condOf, condIn, taskAt, tasksAt, view}
-use Rattle.state.specs.Work.{seat, size}
+use Rattle.state.specs.Work.{seat}
 use Rattle.state.proofs.Closing.{empty-tidy}
 use Rattle.moves.specs.Fresh.{freshState}
 use Rattle.moves.specs.Whole.{Whole}

@@ -18,7 +18,8 @@ use Rattle.rules.specs.Calls.{arriving, moving}
 use Rattle.rules.specs.Planes.{endOf, falling, sharesOf, openAt, openCase, opened}
 use Rattle.rules.specs.State.{Task, nobody, at}
 use Rattle.rules.specs.Together.{Together}
-use Rattle.rules.proofs.Calls.{open-parts, shut-parts, moving-keeps, Comes, comes-asleep, arriving-keeps}
+use Rattle.rules.proofs.Calls.{open-parts, shut-parts, moving-keeps, comes-asleep, arriving-keeps}
+use Rattle.rules.specs.Reasons.{Comes}
 use Rattle.rules.proofs.Keeping.{Running, running-stands, opens-plane}
 use Rattle.rules.proofs.Standing.{facts}
 use Rattle.state.specs.Machine.{endAt, tickAt, workOf, withWork, shorterAt, planeEnd, opensTo, openedOf, sleepRow, sleepAll, closedOf, moveTo, movedOf, wokenJobs, woken, joined, arrivedOf}

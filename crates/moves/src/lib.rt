@@ -3,7 +3,7 @@ ghost use mathlib.Core.Path.{_≡_};
 ghost use mathlib.Core.Bool.{true};
 ghost use Prim.Native.Nat.{_*_, _<_, _≤_};
 ghost use lib.ListN.{length};
-ghost use Rattle.rules.proofs.Calls.{Comes};
+ghost use Rattle.rules.specs.Reasons.{Comes};
 ghost use Rattle.state.specs.Machine.{workOf, openedOf, moveTo, movedOf, arrivedOf};
 ghost use Rattle.state.specs.Work.{nextOf};
 ghost use Rattle.state.specs.View.{view};

@@ -16,7 +16,7 @@ use Rattle.state.specs.declared.State.{State}
 use Rattle.calls.specs.Admit.{admitOf}
 use Rattle.calls.specs.Run.{runOf}
 use Rattle.demands.proofs.Demands.{admits}
-use Rattle.calls.proofs.Went.{run-most}
+use Rattle.calls.proofs.RunSteps.{run-most}
 
 -- only Done has the number 0
 pub not-zero : (a : Answer) → isDone a ≡ false → ¬ (numberOf a ≡ 0)

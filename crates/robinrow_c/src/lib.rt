@@ -8,7 +8,9 @@ ghost use Rattle.calls.specs.Admit.{admitOf};
 ghost use Rattle.calls.specs.Arrive.{arriveOf};
 ghost use Rattle.calls.specs.Step.{stepOf};
 ghost use Rattle.calls.specs.Run.{runOf};
-ghost use Rattle.robinrow_c.specs.Exports.{packedOf, admitNumber, admitImage, arriveNumber, arriveImage, stepNumber, stepImage, stepRecord, most, lent, runNumber, runCount, runImage, runRecords, Again};
+ghost use Rattle.robinrow_c.specs.Exports.{packedOf, most, lent, Again};
+ghost use Rattle.robinrow_c.specs.Exports.{admitNumber, admitImage, arriveNumber, arriveImage, stepNumber, stepImage, stepRecord};
+ghost use Rattle.robinrow_c.specs.Exports.{runNumber, runCount, runImage, runRecords};
 use rules::Answer;
 
 // How many bytes a state takes.
@@ -101,7 +103,8 @@ fn usable(n: usize) -> usize
 pub extern "C" fn robinrow_run(state: &mut [u8], horizon: u64, room: &mut [u8]) -> u64
     ensures is { λ r. ⌜ (r ≡ packedOf (runNumber (now (state .entry)) horizon (now (room .entry))) (runCount (now (state .entry)) horizon (now (room .entry))))
         × (now (state .exit) ≡ runImage (now (state .entry)) horizon (now (room .entry))) × (now (room .exit) ≡ runRecords (now (state .entry)) horizon (now (room .entry))) ⌝ }
-    ensures again { λ _. ⌜ (runNumber (now (state .entry)) horizon (now (room .entry)) ≡ 0 → Again (now (state .exit)) (runOf (stateAt (now (state .entry))) horizon (length (lent (now (room .entry)))) .state)) ⌝ }
+    ensures again { λ _. ⌜ (runNumber (now (state .entry)) horizon (now (room .entry)) ≡ 0
+        → Again (now (state .exit)) (runOf (stateAt (now (state .entry))) horizon (length (lent (now (room .entry)))) .state)) ⌝ }
 {
     if !image::is_image(state) {
         return 13;

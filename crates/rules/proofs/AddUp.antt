@@ -1,5 +1,5 @@
 -- The figures with numbers add up: each holds of the rules by computation
-use mathlib.Core.Path.{_≡_, refl}
+use mathlib.Core.Path.{refl}
 use Rattle.rules.specs.Computed.{computed}
 use Rattle.rules.specs.Listings.{Listings}
 use Rattle.rules.specs.Handed.{Handed}

@@ -1,20 +1,18 @@
 -- What admission's tests say of the rows
-use mathlib.Core.Path.{_≡_, refl, sym, _∙_, ap}
+use mathlib.Core.Path.{_≡_, refl}
 use mathlib.Core.Bool.{Bool, true, false, not, _&&_}
 use mathlib.Core.List.{List, [], _∷_}
-use Prim.Native.Nat.{ℕ, zero, suc, _+_, _*_, _≤_, _<_}
+use Prim.Native.Nat.{ℕ, zero, suc, _*_, _≤_, _<_}
 use native.Mathlib.Omega.{arith}
-use lib.Dec.{leb, ltb, eqb}
+use lib.Dec.{leb, ltb}
 use lib.ListN.{length, getD}
 use Rattle.rules.specs.Bounds.{mostScale, mostTicks}
-use Rattle.rules.specs.declared.Answer.{Answer}
 use Rattle.rules.specs.declared.Answer.the-variants.{Done, RowRange, RowExecution, Scale, Shares}
 use Rattle.ground.specs.Sums.{sumOf}
 use Rattle.ground.specs.Tests.{if_then_else_, Says}
 use Rattle.ground.proofs.Tests.{leb-says, ltb-says, and-says, says-as}
 use Rattle.rules.specs.Admission.{faultOf, Verdict, plain, faultFrom, sizeVerdict, orElse, rowsVerdict}
 use Rattle.rules.specs.Answers.{isDone}
-use Rattle.rules.specs.Figures.{row}
 use Rattle.rules.specs.Reasons.{RowInRange, RowOk}
 use Rattle.rules.specs.Scale.{scaleOf, shareOf, fits}
 use Rattle.rules.specs.State.{noRow}

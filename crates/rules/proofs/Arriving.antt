@@ -1,22 +1,22 @@
 -- An arrival at a whole tick, into a closed or an open plane, keeps a state together
-use mathlib.Core.Path.{_≡_, refl, sym, _∙_, ap, subst}
-use mathlib.Core.Bool.{Bool, true, false}
+use mathlib.Core.Path.{_≡_, refl, sym, _∙_, ap}
+use mathlib.Core.Bool.{true}
 use mathlib.Core.Option.{Option, none, some}
 use mathlib.Core.Logic.{_≢_}
-use mathlib.Core.List.{List, [], _∷_, map}
+use mathlib.Core.List.{List}
 use Prim.Native.Nat.{ℕ, zero, suc, _+_, _*_, _-_, _/_, _≤_, _<_}
-use native.Mathlib.Nat.{mul-le-mul-right, mul-le-mul, mul-div-cancel}
+use native.Mathlib.Nat.{mul-le-mul-right, mul-le-mul}
 use native.Mathlib.Decide.{decLt, ℕ-discrete}
 use native.Mathlib.Omega.{arith}
-use lib.Dec.{leb, ltb, eqb}
-use lib.ListN.{length, set, length-set}
+use lib.Dec.{ltb, eqb}
+use lib.ListN.{length, length-set}
 use lib.Seq.{getD-set-same, getD-set-other}
 use Rattle.ground.specs.Sums.{sumOf, upFrom, same}
 use Rattle.ground.specs.Tests.{if_then_else_}
 use Rattle.ground.proofs.Sums.{sumOf-set, sumOf-at, sumOf-const, sumOf-add, sumOf-none}
 use Rattle.ground.proofs.Tests.{ltb-says, eqb-says, if-by}
 use Rattle.ground.proofs.Times.{up-length, same-yes, same-no, up-once, by-same}
-use Rattle.rules.specs.Calls.{lowestIdle, wake, arriveIdle, arriveIn, arrive}
+use Rattle.rules.specs.Calls.{lowestIdle, wake, arriveIdle}
 use Rattle.rules.specs.Events.{takeFrom, seize}
 use Rattle.rules.specs.Keys.{runKey, least}
 use Rattle.rules.specs.Record.{onProc}

@@ -1,27 +1,27 @@
 -- Each call keeps a state together, and time moves
 use mathlib.Core.Path.{_≡_, refl, sym, _∙_, ap, subst}
-use mathlib.Core.Bool.{Bool, true, false, not, _&&_}
+use mathlib.Core.Bool.{Bool, true, false}
 use mathlib.Core.Option.{Option, none, some}
 use mathlib.Core.Logic.{_≢_}
-use mathlib.Core.List.{List, [], _∷_}
-use Prim.Native.Nat.{ℕ, zero, suc, _+_, _*_, _-_, _/_, _%_, _≤_, _<_}
-use native.Mathlib.Nat.{mul-le-mul-right, mul-div-cancel, div-add-mod'}
-use native.Mathlib.Decide.{decLt, ℕ-discrete}
+use mathlib.Core.List.{List}
+use Prim.Native.Nat.{ℕ, _*_, _-_, _/_, _≤_, _<_}
+use native.Mathlib.Nat.{mul-le-mul-right, mul-div-cancel}
 use native.Mathlib.Omega.{arith}
-use lib.Dec.{leb, ltb, eqb}
+use lib.Dec.{eqb}
 use lib.ListN.{length}
 use Rattle.ground.specs.Bytes.{le}
 use Rattle.ground.specs.Tests.{Says}
 use Rattle.ground.proofs.Tests.{eqb-says}
 use Rattle.rules.specs.Bounds.{clock}
-use Rattle.rules.specs.Calls.{lowestIdle, wake, arriveIn, arriving, arrive, Moved, after, moveTo, moveIn, moving}
+use Rattle.rules.specs.Calls.{lowestIdle, wake, arriveIn, arriving, Moved, after, moveTo, moveIn, moving}
 use Rattle.rules.specs.Events.{nextAt}
 use Rattle.rules.specs.Planes.{endOf, openAt, openCase, opened}
-use Rattle.rules.specs.State.{running, Cond, asleep, resting, waiting, Task, State, at, period, isAwake, tickOf}
+use Rattle.rules.specs.Reasons.{Comes}
+use Rattle.rules.specs.State.{running, Cond, asleep, resting, waiting, Task, State, at, isAwake, tickOf}
 use Rattle.rules.specs.Together.{Awake, Plane, Together}
 use Rattle.rules.proofs.Arriving.{idle-is, woken, wake-same, wake-other, wake-size, wake-by, wakes-shut, arrives}
 use Rattle.rules.proofs.Events.{Core, core, Kept, kept-refl}
-use Rattle.rules.proofs.Keeping.{Running, running-stands, runs-on, Resting, closes, ready-by, ready-awake, opens-plane}
+use Rattle.rules.proofs.Keeping.{Running, running-stands, runs-on, Resting, closes, opens-plane}
 use Rattle.rules.proofs.Time.{Next, next-ok}
 
 -- the present of a whole tick
@@ -103,12 +103,6 @@ unfolding moving opened
 moving-moves s h H lt = case-moves s h H lt s.plane refl
 
 -- ARRIVE
--- what an answer of 0 says of an arrival of the task in place i
-pub record Comes (s : State) (i : ℕ) : Type 0 where
-  pub known : i < length s.tasks
-  pub whole : s.now ≡ tickOf s * s.scale
-  pub late : at i s.tasks .arrived ≡ true → at i s.tasks .last + period (at i s.tasks) ≤ tickOf s
-
 -- a task that may come is asleep
 not-awake-is : (c : Cond) → ¬ (isAwake c ≡ true) → c ≡ asleep
 not-awake-is asleep h = refl

@@ -24,7 +24,6 @@ use Rattle.rules.specs.Record.{Record, onProc, slotsOf}
 use Rattle.rules.specs.Calls.{arriveAnswer, arriving, arrive, Moved, after, moveTo, moveIn, moving, stepAnswer, step}
 use Rattle.rules.specs.Demands.{Job, Course, NextOf, Demand3, OthersStay}
 use Rattle.rules.specs.History.{In, Within, cameBy, planeEnd}
-use Rattle.rules.specs.Figures.{row}
 use Rattle.rules.specs.Reasons.{ArriveReason}
 use Rattle.rules.specs.Run.{Arrival, Call, arriveCall, stepCall, Run, perform, starting, perform-all, runOf}
 use Rattle.rules.specs.Scale.{scaleOf}

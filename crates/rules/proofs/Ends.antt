@@ -1,17 +1,17 @@
 -- Plane ends, read off the arrivals: they rise, and later arrivals leave the earlier ones alone
-use mathlib.Core.Path.{_≡_, refl, sym, _∙_, ap, subst}
+use mathlib.Core.Path.{_≡_, refl, sym, _∙_}
 use mathlib.Core.Bool.{Bool, true, false, _&&_}
 use mathlib.Core.Option.{Option, none, some}
-use mathlib.Core.Logic.{_≢_, _⊎_, inl, inr}
-use mathlib.Core.List.{List, [], _∷_, _++_, map}
-use Prim.Native.Nat.{ℕ, zero, suc, _+_, _*_, _-_, _≤_, _<_, min}
+use mathlib.Core.Logic.{_⊎_, inl, inr}
+use mathlib.Core.List.{List, [], _∷_, _++_}
+use Prim.Native.Nat.{ℕ, zero, suc, _+_, _*_, _≤_, _<_}
 use native.Mathlib.Nat.{mul-le-mul-right}
-use native.Mathlib.Decide.{decLe, ℕ-discrete}
+use native.Mathlib.Decide.{decLe}
 use native.Mathlib.Omega.{arith}
 use lib.Dec.{leb, ltb, eqb}
 use lib.ListN.{length, getD}
 use Rattle.ground.specs.Tests.{if_then_else_}
-use Rattle.ground.proofs.Tests.{leb-says, ltb-says, eqb-says, is-true, is-false, if-by}
+use Rattle.ground.proofs.Tests.{leb-says, ltb-says, is-false, if-by}
 use Rattle.rules.specs.History.{EndsAt, cameBy, limitBy, limitsBy, earliest, planeEnd}
 use Rattle.rules.specs.Planes.{limit, endOf}
 use Rattle.rules.specs.Record.{Record}

@@ -1,7 +1,7 @@
 -- Euclid's rule finds the greatest common divisor, and from it the least common multiple
-use mathlib.Core.Path.{_≡_, refl, sym, _∙_, ap}
+use mathlib.Core.Path.{_≡_, refl, sym, ap}
 use mathlib.Core.Bool.{Bool, true, false}
-use Prim.Native.Nat.{ℕ, zero, suc, _+_, _*_, _/_, _%_, _≤_, _<_, _∣_}
+use Prim.Native.Nat.{ℕ, zero, suc, _*_, _/_, _%_, _≤_, _<_, _∣_}
 use native.Mathlib.Nat.{mod-lt, div-add-mod', mul-div-mul-left, mul-le-mul, mul-pos, dvd-refl, dvd-zero, dvd-mul-left, dvd-mul-right, dvd-mod-iff, div-mul-cancel, mul-dvd-mul-left, pos-of-dvd-of-pos}
 use native.Mathlib.Omega.{arith}
 use lib.Dec.{eqb}

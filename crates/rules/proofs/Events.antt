@@ -3,17 +3,16 @@ use mathlib.Core.Path.{_≡_, refl, sym, _∙_, ap}
 use mathlib.Core.Bool.{Bool, true, false}
 use mathlib.Core.Option.{Option, none, some}
 use mathlib.Core.Logic.{_≢_}
-use mathlib.Core.List.{List, [], _∷_, foldl}
-use Prim.Native.Nat.{ℕ, zero, suc, _+_, _*_, _-_, _≤_, _<_}
-use native.Mathlib.Decide.{decLt, decLe, ℕ-discrete}
+use mathlib.Core.List.{List}
+use Prim.Native.Nat.{ℕ, zero, suc, _+_, _-_, _≤_, _<_}
+use native.Mathlib.Decide.{ℕ-discrete}
 use native.Mathlib.Omega.{arith}
 use lib.Dec.{leb, eqb}
-use lib.ListN.{length, List·getD-eq-default}
+use lib.ListN.{length}
 use Rattle.ground.specs.Sums.{sumOf}
 use Rattle.ground.specs.Tests.{if_then_else_, Says}
 use Rattle.ground.proofs.Sums.{sumOf-mono, sumOf-at, sumOf-none}
 use Rattle.ground.proofs.Tests.{leb-says, eqb-says, if-by}
-use Rattle.rules.specs.Calls.{arrive}
 use Rattle.rules.specs.Events.{giveTo, give, takeFrom, seize, bCase, bEvent, bEvents, cEventsIn, cEvents, events}
 use Rattle.rules.specs.Keys.{waitKeyOf, runKey, waitKey, Best, nope, best, least}
 use Rattle.rules.specs.State.{Cond, asleep, resting, running, waiting, Task, nobody, at, become, isAwake, amountOf, runsOf, waitsOf, amount, proc, runs, waits}

@@ -1,15 +1,15 @@
 -- The refusals are given exactly when their reasons hold, and the scale is the least common multiple
-use mathlib.Core.Path.{_≡_, refl, sym, _∙_, ap, subst}
+use mathlib.Core.Path.{_≡_, ap, subst}
 use mathlib.Core.Logic.{_↔_}
 use mathlib.Core.List.{List}
-use Prim.Native.Nat.{ℕ, suc, _+_, _*_, _≤_, _<_, _∣_}
+use Prim.Native.Nat.{ℕ, _≤_, _<_}
 use native.Mathlib.Nat.{le-of-dvd}
 use native.Mathlib.Omega.{arith}
 use lib.ListN.{length, getD}
 use Rattle.rules.specs.declared.Answer.{Answer}
 use Rattle.rules.specs.Admission.{Verdict, admitVerdict, admit}
-use Rattle.rules.specs.Calls.{arriveAnswer, arrive, stepAnswer, step}
-use Rattle.rules.specs.Exactly.{ExactlyWhen, shortAt, Multiple, Measures}
+use Rattle.rules.specs.Calls.{arrive, step}
+use Rattle.rules.specs.Exactly.{ExactlyWhen, Multiple, Measures}
 use Rattle.rules.specs.Reasons.{RowsOk, AdmitReason, ArriveReason, StepReason}
 use Rattle.rules.specs.Scale.{scaleOf}
 use Rattle.rules.specs.State.{State, noRow}

@@ -1,29 +1,28 @@
 -- P1 to P10, and the figures beside them, hold of the rules
-use mathlib.Core.Path.{_≡_, refl, sym, _∙_, ap, subst}
-use mathlib.Core.Bool.{Bool, true}
-use mathlib.Core.List.{List, [], _∷_, _++_}
-use Prim.Native.Nat.{ℕ, zero, suc, _+_, _*_, _-_, _/_, _≤_, _<_, min, _^_, _∣_}
+use mathlib.Core.Path.{_≡_, refl, sym, _∙_, ap}
+use mathlib.Core.List.{List, [], _∷_}
+use Prim.Native.Nat.{ℕ, zero, suc, _+_, _*_, _-_, _≤_, _<_, min}
 use native.Mathlib.Nat.{dvd-refl}
 use native.Mathlib.Omega.{arith}
-use lib.Dec.{lit≤, lit<}
-use lib.ListN.{length, getD}
+use lib.Dec.{lit≤}
+use lib.ListN.{length}
 use Rattle.rules.specs.declared.Answer.{Answer}
 use Rattle.rules.specs.declared.Answer.the-variants.{Done, RowExecution, Scale, TooSoon}
 use Rattle.ground.specs.Sums.{sumOf}
 use Rattle.ground.specs.Tests.{if_then_else_}
 use Rattle.ground.proofs.Tests.{of-true}
-use Rattle.rules.specs.Admission.{Verdict, Admitted, admit, admitVerdict}
+use Rattle.rules.specs.Admission.{Verdict, admit}
 use Rattle.rules.specs.Answered.{admits}
 use Rattle.rules.specs.Answers.{numberOf, isDone}
 use Rattle.rules.specs.Calls.{arriveAnswer}
-use Rattle.rules.specs.Figures.{row, ArrivedAgo, Figures}
+use Rattle.rules.specs.Figures.{ArrivedAgo, Figures}
 use Rattle.rules.specs.Holds.{holds}
-use Rattle.rules.specs.Listings.{scaleIn}
+use Rattle.rules.specs.Listings.{row, scaleIn}
 use Rattle.rules.specs.Reasons.{ProcessorsOk, LengthOk, RowsOk, AdmitReason}
 use Rattle.rules.specs.Scale.{gcdIn, gcd, lcm, scaleFrom, scaleOf, shareOf}
-use Rattle.rules.specs.State.{State, blank, admitted, at, period, tickOf}
+use Rattle.rules.specs.State.{State, blank, admitted, at, period}
 use Rattle.rules.specs.Table.{Row, rowsOf, shorter, tableBytes}
-use Rattle.rules.specs.Together.{InRange, Together}
+use Rattle.rules.specs.Together.{InRange}
 use Rattle.rules.proofs.Calls.{tick-of}
 use Rattle.rules.proofs.AddUp.{listings, handed, answered, histories}
 use Rattle.rules.proofs.Holding.{holds-says}

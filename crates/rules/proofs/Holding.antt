@@ -1,15 +1,15 @@
 -- The test `holds` says that a state holds together, clause by clause
-use mathlib.Core.Path.{_≡_, refl, sym, _∙_, ap}
-use mathlib.Core.Bool.{Bool, true, false, not, _&&_, _||_}
+use mathlib.Core.Path.{_≡_, refl, sym, _∙_}
+use mathlib.Core.Bool.{Bool, true, false, not, _&&_}
 use mathlib.Core.Option.{Option, none, some}
 use mathlib.Core.Logic.{_⊎_, inl, inr}
-use mathlib.Core.List.{List, [], _∷_, map}
-use Prim.Native.Nat.{ℕ, zero, suc, _+_, _*_, _-_, _/_, _%_, _≤_, _<_, max}
-use native.Mathlib.Nat.{div-add-mod', mod-lt, mul-le-mul-right, le-of-mul-le-mul-right, lt-of-mul-lt-mul-right, zero-mul}
+use mathlib.Core.List.{List, map}
+use Prim.Native.Nat.{ℕ, _+_, _*_, _-_, _/_, _%_, _≤_, _<_, max}
+use native.Mathlib.Nat.{div-add-mod', mod-lt, mul-le-mul-right, le-of-mul-le-mul-right, lt-of-mul-lt-mul-right}
 use native.Mathlib.Decide.{decLt}
 use native.Mathlib.Omega.{arith}
 use lib.Dec.{leb, ltb, eqb}
-use lib.ListN.{length, getD, length-map, List·getD-map}
+use lib.ListN.{length, length-map}
 use Rattle.ground.specs.Bytes.{le}
 use Rattle.ground.specs.Sums.{sumOf}
 use Rattle.ground.specs.Tests.{if_then_else_, Says, every}
@@ -19,7 +19,6 @@ use Rattle.ground.proofs.Times.{same-no}
 use Rattle.rules.specs.Bounds.{clock}
 use Rattle.rules.specs.Admission.{processorsOk, rowsVerdict}
 use Rattle.rules.specs.Answers.{isDone}
-use Rattle.rules.specs.Figures.{row}
 use Rattle.rules.specs.Holds.{rowsIn, tableHolds, clockHolds, seated, conditionsHold, lastHolds, lastsHold, restsAt, closedHolds, amountFits, idleHolds, sumHolds, ceilTick, soonest, limitHolds, openHolds, planeHolds, holds}
 use Rattle.rules.specs.Scale.{scaleOf, shareOf}
 use Rattle.rules.specs.State.{Cond, asleep, resting, running, waiting, Task, State, nobody, blank, at, period, short, isAwake, amountOf, procOf, runsOf, waitsOf, onOf, amount, proc, runs, waits, on, awakeShare, tickOf, onTick}

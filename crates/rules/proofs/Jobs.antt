@@ -20,7 +20,7 @@ use Rattle.rules.specs.Calls.{lowestIdle, arriveIn, arriving, arriveAnsw
 use Rattle.rules.specs.Demands.{Reached, Job}
 use Rattle.rules.specs.History.{earliest, limitsBy, ran, Once, In, Working, Follows, EndsAt, cameBy, limitBy, planeEnd}
 use Rattle.rules.specs.Planes.{limit, endOf}
-use Rattle.rules.specs.Reasons.{ArriveReason, StepReason}
+use Rattle.rules.specs.Reasons.{ArriveReason, StepReason, Comes}
 use Rattle.rules.specs.Record.{Record}
 use Rattle.rules.specs.Run.{Arrival, Call, arriveCall, stepCall, Run, perform, perform-all}
 use Rattle.rules.specs.Scale.{scaleOf}
@@ -31,7 +31,7 @@ use Rattle.rules.proofs.Arriving.{idle-is, arrives}
 use Rattle.rules.proofs.Books.{ran-past, ran-none, Books, wakes-books, arrives-books}
 use Rattle.rules.proofs.Ends.{end-next, ends-more, ends-last, end-kept, ends-kept, ends-kept-from, no-end-between, end-is}
 use Rattle.rules.proofs.Events.{Core}
-use Rattle.rules.proofs.Calls.{tick-of, open-parts, shut-parts, moving-keeps, Moves, moving-moves, Comes, comes-asleep, arriving-keeps, Takes, arriving-takes}
+use Rattle.rules.proofs.Calls.{tick-of, open-parts, shut-parts, moving-keeps, Moves, moving-moves, comes-asleep, arriving-keeps, Takes, arriving-takes}
 use Rattle.rules.proofs.Keeping.{rows-same, not-both}
 use Rattle.rules.proofs.Places.{inside}
 use Rattle.rules.proofs.Reading.{record-read}

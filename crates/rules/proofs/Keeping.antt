@@ -1,22 +1,18 @@
 -- Opening, running on and closing keep a state together
-use mathlib.Core.Path.{_≡_, refl, sym, _∙_, ap, subst}
+use mathlib.Core.Path.{_≡_, refl, sym, _∙_, ap}
 use mathlib.Core.Bool.{Bool, true, false}
-use mathlib.Core.Option.{Option, none, some}
 use mathlib.Core.Logic.{_≢_}
-use mathlib.Core.List.{List, [], _∷_, map, foldl}
-use Prim.Native.Nat.{ℕ, zero, suc, _+_, _*_, _-_, _/_, _≤_, _<_, min}
-use native.Mathlib.Nat.{mul-le-mul-right, mul-le-mul, le-of-mul-le-mul-right, mul-div-cancel, div-mul-le-self, not-suc-le-zero, le-of-suc-le-suc}
-use native.Mathlib.Decide.{decLt}
+use mathlib.Core.List.{List, [], _∷_, map}
+use Prim.Native.Nat.{ℕ, zero, suc, _+_, _*_, _-_, _/_, _≤_, _<_}
+use native.Mathlib.Nat.{mul-le-mul, le-of-mul-le-mul-right, mul-div-cancel, not-suc-le-zero, le-of-suc-le-suc}
 use native.Mathlib.Omega.{arith}
-use lib.Dec.{leb, eqb}
-use lib.ListN.{length, getD, length-map, List·getD-map}
+use lib.Dec.{eqb}
+use lib.ListN.{length, length-map, List·getD-map}
 use Rattle.ground.specs.Bytes.{le}
 use Rattle.ground.specs.Tests.{if_then_else_, Says}
 use Rattle.ground.proofs.Sums.{sumOf-none, sumOf-places}
 use Rattle.ground.proofs.Tests.{eqb-says, is-false}
-use Rattle.rules.specs.Calls.{arrive}
 use Rattle.rules.specs.Events.{spend, advance, events}
-use Rattle.rules.specs.Figures.{row}
 use Rattle.rules.specs.Planes.{limit, endOf, openTasks, closeCond, closeTask, closed}
 use Rattle.rules.specs.Scale.{scaleOf}
 use Rattle.rules.specs.State.{running, Cond, asleep, resting, waiting, Task, nobody, at, short, be, isAwake, procOf, runsOf, waitsOf, onOf, runs, waits, on}

@@ -3,19 +3,17 @@ use mathlib.Core.Path.{_≡_, refl, sym, _∙_, ap}
 use mathlib.Core.Bool.{Bool, true, false}
 use mathlib.Core.Logic.{_≢_, inl, inr}
 use mathlib.Core.List.{List, [], _∷_, foldl}
-use Prim.Native.Nat.{ℕ, zero, suc, _+_, _*_, _-_, _≤_, _<_}
-use native.Mathlib.Nat.{mul-le-mul-right, mul-le-mul-left, mul-le-mul}
+use Prim.Native.Nat.{ℕ, suc, _+_, _*_, _≤_, _<_}
+use native.Mathlib.Nat.{mul-le-mul-right, mul-le-mul}
 use native.Mathlib.Decide.{decLt, ℕ-discrete}
 use native.Mathlib.Omega.{arith}
-use lib.Dec.{eqb, ltb}
+use lib.Dec.{ltb}
 use lib.ListN.{length, getD, length-map, List·getD-map, List·getD-eq-default}
-use Rattle.ground.specs.Bytes.{le}
 use Rattle.ground.specs.Sums.{sumOf, times}
 use Rattle.ground.specs.Tests.{if_then_else_}
 use Rattle.ground.proofs.Sums.{sumOf-at, sumOf-scale, sumOf-none, sumOf-places}
 use Rattle.ground.proofs.Tests.{ltb-says, if-by}
 use Rattle.ground.proofs.Times.{same-yes, same-no, times-place, by-same, times-cons}
-use Rattle.rules.specs.Figures.{line}
 use Rattle.rules.specs.Planes.{falling, sharesOf, enterAs, enter, openTasks}
 use Rattle.rules.specs.Scale.{fits}
 use Rattle.rules.specs.State.{Cond, asleep, resting, running, waiting, Task, nobody, at, be, become, isAwake, amountOf, procOf, runsOf, waitsOf, onOf, amount, proc, runs, waits, on, awakeShare}

@@ -1,8 +1,8 @@
 -- Each call gives each answer exactly when document 01 says so
-use mathlib.Core.Path.{_≡_, refl, sym, _∙_, ap, subst}
+use mathlib.Core.Path.{_≡_, refl, _∙_, ap}
 use mathlib.Core.Bool.{Bool, true, false, not, _&&_}
 use mathlib.Core.List.{List, [], _∷_}
-use Prim.Native.Nat.{ℕ, zero, suc, _+_, _*_, _-_, _/_, _%_, _≤_, _<_}
+use Prim.Native.Nat.{ℕ, zero, suc, _+_, _*_, _-_, _%_, _≤_, _<_}
 use native.Mathlib.Nat.{div-add-mod'}
 use native.Mathlib.Omega.{arith}
 use lib.Dec.{leb, ltb, eqb}
@@ -16,7 +16,6 @@ use Rattle.ground.proofs.Tests.{leb-says, ltb-says, eqb-says, and-says, says-as
 use Rattle.rules.specs.Admission.{processorsOk, lengthOk, faultOf, Verdict, plain, faultFrom, sizeVerdict, orElse, rowsVerdict, admitVerdict}
 use Rattle.rules.specs.Answers.{isDone}
 use Rattle.rules.specs.Calls.{taskKnown, tooSoon, arriveAnswer, stepAnswer}
-use Rattle.rules.specs.Figures.{row}
 use Rattle.rules.specs.Holds.{holds}
 use Rattle.rules.specs.Reasons.{ProcessorsOk, LengthOk, RowInRange, RowOk, RowsOk, AdmitReason, TaskKnown, OnTick, Soon, ArriveReason, StepReason}
 use Rattle.rules.specs.Scale.{scaleOf, shareOf, fits}

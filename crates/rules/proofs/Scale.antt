@@ -2,12 +2,11 @@
 use mathlib.Core.Path.{_≡_, refl, ap, subst}
 use mathlib.Core.Logic.{_↔_}
 use mathlib.Core.List.{List, [], _∷_}
-use Prim.Native.Nat.{ℕ, zero, suc, _+_, _*_, _/_, _≤_, _<_, _∣_}
-use native.Mathlib.Nat.{mul-le-mul-left, mul-le-mul-right, mul-div-le, le-trans, mul-assoc, mul-comm, le-of-dvd, pos-of-dvd-of-pos, eq-one-of-dvd-one, dvd-refl, dvd-trans, dvd-mul-left, dvd-mul-right, one-dvd, dvd-antisymm, div-mul-cancel, div-lt-self, div-eq-of-eq-mul-left, div-self, eq-of-mul-eq-mul-right}
+use Prim.Native.Nat.{ℕ, zero, suc, _*_, _/_, _≤_, _<_, _∣_}
+use native.Mathlib.Nat.{mul-le-mul-left, mul-le-mul-right, mul-div-le, le-trans, le-of-dvd, pos-of-dvd-of-pos, eq-one-of-dvd-one, dvd-refl, dvd-trans, dvd-mul-left, dvd-mul-right, one-dvd, dvd-antisymm, div-mul-cancel, div-lt-self, div-eq-of-eq-mul-left}
 use native.Mathlib.Omega.{arith}
-use lib.ListN.{length, getD}
+use lib.ListN.{length}
 use Rattle.rules.specs.Table.{Row, shorter}
-use Rattle.rules.specs.State.{noRow}
 use Rattle.rules.specs.Exactly.{shortAt, Multiple}
 use Rattle.rules.specs.Scale.{gcd, lcm, scaleFrom, scaleOf, shareOf}
 use Rattle.rules.proofs.Euclid.{gcd-divides-left, gcd-divides-right, gcd-greatest, lcm-left, lcm-right, lcm-positive, lcm-least}

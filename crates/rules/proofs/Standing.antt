@@ -1,9 +1,8 @@
 -- From what holding together says to what the events need
-use mathlib.Core.Path.{_≡_, refl, sym, _∙_, ap}
+use mathlib.Core.Path.{_≡_, refl, _∙_, ap}
 use mathlib.Core.Bool.{Bool, true, false}
 use mathlib.Core.List.{List, [], _∷_, map}
-use Prim.Native.Nat.{ℕ, zero, suc, _+_, _*_, _-_, _≤_, _<_, _∣_}
-use native.Mathlib.Nat.{mul-le-mul-right}
+use Prim.Native.Nat.{ℕ, suc, _*_, _-_, _≤_, _<_, _∣_}
 use native.Mathlib.Decide.{decLt}
 use native.Mathlib.Omega.{arith}
 use lib.ListN.{length, getD, length-map, List·getD-map, List·getD-eq-default}
@@ -11,7 +10,6 @@ use Rattle.ground.specs.Sums.{sumOf, upFrom}
 use Rattle.ground.specs.Tests.{if_then_else_}
 use Rattle.ground.proofs.Sums.{sumOf-mono, sumOf-const, sumOf-add, sumOf-none}
 use Rattle.ground.proofs.Times.{up-length}
-use Rattle.rules.specs.Figures.{row}
 use Rattle.rules.specs.State.{Task, noRow, nobody, at, short, isAwake, proc, runs, on, awakeShare}
 use Rattle.rules.specs.Table.{Row}
 use Rattle.rules.specs.Together.{Awake, Table, Seats, Shut, Going}

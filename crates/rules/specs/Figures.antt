@@ -13,8 +13,7 @@ use Rattle.rules.specs.Calls.{arriveAnswer}
 use Rattle.rules.specs.Handed.{Handed}
 use Rattle.rules.specs.Answered.{admits, Answered}
 use Rattle.rules.specs.Histories.{Histories}
-use Rattle.rules.specs.Listings.{scaleIn, Listings}
-unfoldable pub use Rattle.rules.specs.Listings.{row, towards, line, listing, tableP1}
+use Rattle.rules.specs.Listings.{row, scaleIn, Listings}
 
 -- in a state that holds together, the task arrived this many ticks ago, and the present is a whole tick
 pub record ArrivedAgo (s : State) (task ticks : ℕ) : Type 0 where

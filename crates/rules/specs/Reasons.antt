@@ -87,6 +87,12 @@ ArriveReason s task HorizonNotLater = ⊥
 ArriveReason s task RoomTooShort = ⊥
 ArriveReason s task TextForm = ⊥
 
+-- what an answer of 0 says of an arrival of the task in place i
+pub record Comes (s : State) (i : ℕ) : Type 0 where
+  pub known : i < length s.tasks
+  pub whole : s.now ≡ tickOf s * s.scale
+  pub late : at i s.tasks .arrived ≡ true → at i s.tasks .last + period (at i s.tasks) ≤ tickOf s
+
 -- STEP
 abbrev pub StepReason : State → ℕ → ℕ → Answer → Type 0
 StepReason s horizon room NotTogether = ¬ Together s

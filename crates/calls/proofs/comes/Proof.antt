@@ -2,7 +2,7 @@ use borrow.Author.Needs.{needs}
 use denote.Ref.{now}
 use mathlib.Core.Path.{sym, _∙_}
 use native.Mathlib.Omega.{arith}
-use Rattle.calls.proofs.Coming.{comes-7, comes-8, comes-9, comes-late, comes-first}
+use Rattle.calls.proofs.ArriveReasons.{comes-7, comes-8, comes-9, comes-late, comes-first}
 use Rattle.calls.proofs.comes.Statement.{statement}
 use Rattle.calls.proofs.comes.Tie as tie
 

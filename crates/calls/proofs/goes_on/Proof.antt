@@ -1,6 +1,6 @@
 use borrow.Author.Needs.{needs}
 use native.Mathlib.Omega.{arith}
-use Rattle.calls.proofs.Went.{goes-yes, goes-no}
+use Rattle.calls.proofs.RunSteps.{goes-yes, goes-no}
 use Rattle.calls.proofs.goes_on.Statement.{statement}
 use Rattle.calls.proofs.goes_on.Tie as tie
 

@@ -8,8 +8,8 @@ use lib.ListN.{length-drop}
 use Rattle.moves.specs.Lent.{stateIn}
 use Rattle.moves.proofs.Moving.{stop-fits}
 use Rattle.calls.proofs.Answering.{run-no, run-yes}
-use Rattle.calls.proofs.Went.{goes-more}
-use Rattle.calls.proofs.Going.{Going, going-from, going-length, going-room, going-on, going-end}
+use Rattle.calls.proofs.RunSteps.{goes-more}
+use Rattle.calls.proofs.RunLoop.{Going, going-from, going-length, going-room, going-on, going-end}
 use Rattle.calls.proofs.Sizes.{sized}
 use Rattle.calls.proofs.run.Statement.{statement}
 use Rattle.calls.proofs.run.Tie as tie

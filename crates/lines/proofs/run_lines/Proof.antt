@@ -6,7 +6,7 @@ use Prim.Native.Nat.{ℕ, _≤_}
 use native.Mathlib.Omega.{arith}
 use Rattle.calls.specs.declared.Ran.{Ran}
 use Rattle.calls.specs.Run.{runOf}
-use Rattle.calls.proofs.Went.{run-most}
+use Rattle.calls.proofs.RunSteps.{run-most}
 use Rattle.lines.proofs.Writing.{refused-lines, done-lines}
 use Rattle.lines.proofs.run_lines.Statement.{statement}
 use Rattle.lines.proofs.run_lines.Tie as tie

@@ -14,7 +14,7 @@ use Rattle.state.specs.Machine.{movedOf}
 use Rattle.moves.specs.Whole.{Whole}
 use Rattle.moves.proofs.Keeping.{step-whole}
 use Rattle.calls.specs.Run.{Went, went, goesOn, filledBy}
-use Rattle.calls.proofs.Went.{goes-more, went-more, went-none, record-48}
+use Rattle.calls.proofs.RunSteps.{goes-more, went-more, went-none, record-48}
 use Rattle.rules.specs.Bounds.{clock}
 
 -- what is done, and what is left
