@@ -17,7 +17,7 @@ use Rattle.rules.proofs.Scale.{share-at-most}
 use Rattle.queue.specs.declared.Queue.{Queue}
 use Rattle.state.specs.Sound.{noMarks, allMarked, members, queueOk, runsOk, waitsOk, slotsOk, membersOk, soundBy}
 use Rattle.together.specs.Clauses.{lastOk, lastsOk, runAmountsOk, waitAmountsOk, runSum, waitSum, awakeSum, ceilOf, soonestOf, limitOk, limitsOk, Near, Ready}
-use Rattle.together.specs.Tables.{rowOk, rowsOk, shareOk, sharesOk, scaleOk}
+use Rattle.together.specs.Tables.{rowOk, rowsOk, shareOk, sharesOk}
 use Rattle.together.proofs.Tables.{row-ok-says}
 use Rattle.together.proofs.Folds.{and-both, all-none, all-at, sum-more, sum-bound, sum-mono}
 use Rattle.rules.specs.Bounds.{clock, mostScale, mostTicks}
@@ -80,13 +80,9 @@ pub record RowSmall (p e d : ℕ) : Type 0 where
   pub within : e ≤ min p d
 
 -- a row that passes
-pub row-small : (ps es ds : List ℕ) (n i : ℕ) → rowsOk ps es ds n ≡ true → i < n → RowSmall (getD ps i 0) (getD es i 0) (getD ds i 0)
-unfolding rowsOk
-row-small ps es ds n i e h =
-    let p = getD ps i 0 in
-    let x = getD es i 0 in
-    let d = getD ds i 0 in
-    let r = of-true (rowOk p x d) (row-ok-says (record { period = p; exec = x; deadline = d })) (all-at (λ j. rowOk (getD ps j 0) (getD es j 0) (getD ds j 0)) n i e h) in
+pub row-within : (p x d : ℕ) → rowOk p x d ≡ true → RowSmall p x d
+row-within p x d e =
+    let r = of-true (rowOk p x d) (row-ok-says (record { period = p; exec = x; deadline = d })) e in
     record {
       some = let a = r .0 .0 .0 in let b = r .0 .2 .0 in omega arith;
       period = r .0 .0 .1;
@@ -95,6 +91,10 @@ row-small ps es ds n i e h =
       within = r .1;
     }
 
+pub row-small : (ps es ds : List ℕ) (n i : ℕ) → rowsOk ps es ds n ≡ true → i < n → RowSmall (getD ps i 0) (getD es i 0) (getD ds i 0)
+unfolding rowsOk
+row-small ps es ds n i e h = row-within (getD ps i 0) (getD es i 0) (getD ds i 0) (all-at (λ j. rowOk (getD ps j 0) (getD es j 0) (getD ds j 0)) n i e h)
+
 -- LIMITS
 pub soonest-small : (arrived : Bool) (last p ceil : ℕ) → (arrived ≡ true → last ≤ clock) → ceil ≤ 4294967296 → soonestOf arrived last p ceil ≤ 4294967296 + p
 soonest-small true last p ceil h k = let x = h refl in omega arith
@@ -102,11 +102,10 @@ soonest-small false last p ceil h k = omega arith
 
 -- SHARES
 -- a share that passes is at most L
-pub share-small : (l : ℕ) (ps es ds xs : List ℕ) (n i : ℕ) → rowsOk ps es ds n ≡ true → scaleOk l ps es ds xs n ≡ true → i < n → getD xs i 0 ≤ l
-unfolding scaleOk sharesOk shareOf
-share-small l ps es ds xs n i e f h =
+pub share-within : (l : ℕ) (ps es ds xs : List ℕ) (n i : ℕ) → rowsOk ps es ds n ≡ true → sharesOk l ps es ds xs n ≡ true → i < n → getD xs i 0 ≤ l
+unfolding sharesOk shareOf
+share-within l ps es ds xs n i e a h =
     let q = min (getD ps i 0) (getD ds i 0) in
-    let a = and-both (sharesOk l ps es ds xs n) _ f .0 in
     let b = all-at (λ j. shareOk l (min (getD ps j 0) (getD ds j 0)) (getD es j 0) (getD xs j 0)) n i a h in
     let x = eqb-true (getD xs i 0) (getD es i 0 * (l / q)) (and-both (eqb (l / q * q) l) _ b .1) in
     let m = share-at-most l (record { period = getD ps i 0; exec = getD es i 0; deadline = getD ds i 0 }) (row-small ps es ds n i e h .within) in

@@ -1,5 +1,5 @@
--- The test in the order in which the code decides it: table, order, instant, last arrivals, and then the plane
-use mathlib.Core.Path.{_≡_, _∙_, ap}
+-- The test in the order in which the code decides it: table, instant and last arrivals, order, and then the plane
+use mathlib.Core.Path.{_≡_, refl, _∙_, ap}
 use mathlib.Core.Bool.{Bool, true, false, _&&_}
 use mathlib.Core.List.{List}
 use Prim.Native.Nat.{ℕ, _*_, _/_, _≤_}
@@ -19,23 +19,21 @@ use Rattle.together.proofs.Folds.{and-first, and-next, second-fails, se
 use Rattle.together.proofs.Tables.{scale-low, table-ok-says}
 use Rattle.rules.specs.Bounds.{clock}
 
+-- the first, the second and the fifth test
+early : (t c s p a o : Bool) → t && (c && a) ≡ false → t && (c && (s && (p && (a && o)))) ≡ false
+early false c s p a o e = refl
+early true false s p a o e = refl
+early true true s p a o e = second-fails s _ (second-fails p _ (and-first a o e))
+
 module _ (s : State) where
-  pub table-fails : tableOk (s .table) ≡ false → holdsOf s ≡ false
+  pub front-fails : tableOk (s .table) && (clockOk s && arrivalsOk s) ≡ false → holdsOf s ≡ false
   unfolding holdsOf
-  table-fails e = and-first (tableOk (s .table)) _ e
+  front-fails e = early (tableOk (s .table)) (clockOk s) (soundOf s) (planeOk s) (arrivalsOk s) (orderOk (s .table)) e
 
   pub order-fails : orderOk (s .table) ≡ false → holdsOf s ≡ false
   unfolding holdsOf
   order-fails e =
       second-fails (tableOk (s .table)) _ (second-fails (clockOk s) _ (second-fails (soundOf s) _ (second-fails (planeOk s) _ (second-fails (arrivalsOk s) _ e))))
-
-  pub clock-fails : clockOk s ≡ false → holdsOf s ≡ false
-  unfolding holdsOf
-  clock-fails e = second-fails (tableOk (s .table)) _ (and-first (clockOk s) _ e)
-
-  pub arrivals-fail : arrivalsOk s ≡ false → holdsOf s ≡ false
-  unfolding holdsOf
-  arrivals-fail e = second-fails (tableOk (s .table)) _ (second-fails (clockOk s) _ (second-fails (soundOf s) _ (second-fails (planeOk s) _ (and-first (arrivalsOk s) _ e))))
 
   module _ (t : tableOk (s .table) ≡ true) (o : orderOk (s .table) ≡ true) (k : clockOk s ≡ true) (l : arrivalsOk s ≡ true) where
     the-plane : holdsOf s ≡ soundOf s && planeOk s

@@ -8,3 +8,5 @@ pub mod Bounds
 pub mod Meeting
 pub mod Deciding
 pub mod Handing
+pub mod Rows
+pub mod Orders

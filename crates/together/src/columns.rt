@@ -2,16 +2,20 @@
 ghost use mathlib.Core.Path.{_≡_};
 ghost use mathlib.Core.Bool.{true, false, _&&_};
 ghost use Prim.Native.Nat.{ℕ, _*_, _/_, _≤_, _<_, min};
-ghost use lib.Dec.{leb};
+ghost use lib.Dec.{leb, ltb};
 ghost use lib.ListN.{getD};
+ghost use Rattle.ground.specs.Tests.{if_then_else_};
 ghost use Rattle.rules.specs.Scale.{gcd};
+ghost use Rattle.table.specs.Rows.{shareSumOf};
 ghost use Rattle.together.specs.Tables.{rowOk, rowsOk, scaleInRange, shareOk, scaleOk, tableOk, tableOf, placesOk, ahead, fallsOk};
-ghost use Rattle.rules.specs.Bounds.{mostScale, mostTicks};
+ghost use Rattle.together.specs.Clauses.{lastsOk};
+ghost use Rattle.rules.specs.Bounds.{clock, mostScale, mostTicks};
+use crate::jobs::last_ok;
+use ground::Instant;
 use table::gcd;
 use table::place;
 use table::processors_ok;
 use table::row_in_range;
-use table::share_sum;
 use table::shorter;
 use table::wide;
 
@@ -25,21 +29,6 @@ fn row_ok(period: u32, exec: u32, deadline: u32) -> bool
         return false;
     }
     exec <= shorter(period, deadline)
-}
-
-// Every row?
-fn rows_ok(period: &[u32; 128], exec: &[u32; 128], deadline: &[u32; 128], count: usize) -> bool
-    requires inside { ⌜ count ≤ 128 ⌝ }
-    ensures is { λ r. ⌜ r ≡ rowsOk (now (period .entry)) (now (exec .entry)) (now (deadline .entry)) count ⌝ }
-{
-    let mut i: usize = 0;
-    while i < count {
-        if !row_ok(period[i], exec[i], deadline[i]) {
-            return false;
-        }
-        i += 1;
-    }
-    true
 }
 
 // SCALE AND SHARES
@@ -74,29 +63,61 @@ fn common(g: u64, d: u64) -> u64
     gcd(g, d)
 }
 
-// Is L the least common multiple of all q, and each share e times L/q? One division a row.
-fn scale_ok(
+// L/q of a row that passes, whose q divides L and whose share is e times L/q; 0 of any other.
+fn divided(period: u32, exec: u32, deadline: u32, share: u64, scale: u64) -> u64
+    requires small { ⌜ scale ≤ mostScale ⌝ }
+    ensures is { λ r. ⌜ r ≡ (if rowOk period exec deadline && shareOk scale (min period deadline) exec share then scale / min period deadline else 0) ⌝ }
+{
+    if !row_ok(period, exec, deadline) {
+        return 0;
+    }
+    let d = quotient(scale, period, deadline);
+    if !share_ok(scale, period, exec, deadline, share, d) {
+        return 0;
+    }
+    d
+}
+
+// Does every row pass, is L the least common multiple of all q, each share e times L/q, the shares' sum at most this much, and
+// each last arrival not later than this tick? One loop, so that a row's other tests run while its division does.
+fn rows_ok(
     period: &[u32; 128],
     exec: &[u32; 128],
     deadline: &[u32; 128],
     share: &[u64; 128],
+    arrived: &[bool; 128],
+    awake: &[bool; 128],
+    last: &[u64; 128],
     count: usize,
     scale: u64,
+    most: u64,
+    tick: u64,
 ) -> bool
-    requires inside { ⌜ (count ≤ 128) × (scale ≤ mostScale) × (rowsOk (now period) (now exec) (now deadline) count ≡ true) ⌝ }
-    ensures is { λ r. ⌜ r ≡ scaleOk scale (now (period .entry)) (now (exec .entry)) (now (deadline .entry)) (now (share .entry)) count ⌝ }
+    requires inside { ⌜ (count ≤ 128) × (0 < scale) × (scale ≤ mostScale) ⌝ }
+    ensures is { λ r. ⌜ r ≡ (rowsOk (now (period .entry)) (now (exec .entry)) (now (deadline .entry)) count
+        && (scaleOk scale (now (period .entry)) (now (exec .entry)) (now (deadline .entry)) (now (share .entry)) count && leb (shareSumOf (now (share .entry)) count) most))
+        && lastsOk (now (arrived .entry)) (now (awake .entry)) (now (last .entry)) tick count ⌝ }
 {
     let mut g = scale;
+    let mut sum: u64 = 0;
     let mut i: usize = 0;
     while i < count {
-        let d = quotient(scale, period[i], deadline[i]);
-        if !share_ok(scale, period[i], exec[i], deadline[i], share[i], d) {
+        let x = share[i];
+        let d = divided(period[i], exec[i], deadline[i], x, scale);
+        if d == 0 {
+            return false;
+        }
+        if !last_ok(arrived[i], awake[i], last[i], tick) {
             return false;
         }
         g = common(g, d);
+        sum += x;
         i += 1;
     }
-    g == 1
+    if g == 1 {
+        return sum <= most;
+    }
+    false
 }
 
 // 1 to 128 rows?
@@ -121,7 +142,7 @@ fn scale_in_range(scale: u64) -> bool
     }
 }
 
-// Do table, m, L and shares pass admission?
+// Do table, m, L and shares pass admission, is the instant within the clock, and no last arrival later than it?
 pub fn table_ok(
     period: &[u32; 128],
     exec: &[u32; 128],
@@ -131,8 +152,13 @@ pub fn table_ok(
     count: usize,
     m: usize,
     scale: u64,
+    present: Instant,
+    arrived: &[bool; 128],
+    awake: &[bool; 128],
+    last: &[u64; 128],
 ) -> bool
-    ensures is { λ r. ⌜ r ≡ tableOk (tableOf (now (period .entry)) (now (exec .entry)) (now (deadline .entry)) (now (share .entry)) (now (order .entry)) count m scale) ⌝ }
+    ensures is { λ r. ⌜ r ≡ tableOk (tableOf (now (period .entry)) (now (exec .entry)) (now (deadline .entry)) (now (share .entry)) (now (order .entry)) count m scale)
+        && (leb (present .0) (clock * scale) && lastsOk (now (arrived .entry)) (now (awake .entry)) (now (last .entry)) (present .0 / scale) count) ⌝ }
 {
     if !processors_ok(m) {
         return false;
@@ -140,34 +166,30 @@ pub fn table_ok(
     if !count_ok(count) {
         return false;
     }
-    if !rows_ok(period, exec, deadline, count) {
-        return false;
-    }
     if !scale_in_range(scale) {
         return false;
     }
-    if !scale_ok(period, exec, deadline, share, count, scale) {
+    if rules::CLOCK * scale < present.0 {
         return false;
     }
-    share_sum(share, count) <= (m as u64) * scale
+    let most = (m as u64) * scale;
+    let tick = present.0 / scale;
+    rows_ok(
+        period,
+        exec,
+        deadline,
+        share,
+        arrived,
+        awake,
+        last,
+        count,
+        scale,
+        most,
+        tick,
+    )
 }
 
 // THE KEPT ORDER
-
-// Are the entries places of rows?
-fn places_ok(order: &[u16; 128], count: usize) -> bool
-    requires inside { ⌜ count ≤ 128 ⌝ }
-    ensures is { λ r. ⌜ r ≡ placesOk (now (order .entry)) count ⌝ }
-{
-    let mut k: usize = 0;
-    while k < count {
-        if count <= place(order[k]) {
-            return false;
-        }
-        k += 1;
-    }
-    true
-}
 
 // Does place i come ahead of place j?
 fn ahead(share: &[u64; 128], i: usize, j: usize) -> bool
@@ -185,31 +207,35 @@ fn ahead(share: &[u64; 128], i: usize, j: usize) -> bool
     false
 }
 
-// Does each entry come ahead of the next?
-fn falls_ok(share: &[u64; 128], order: &[u16; 128], count: usize) -> bool
-    requires inside { ⌜ (1 ≤ count) × (count ≤ 128) × (placesOk (now order) count ≡ true) ⌝ }
-    ensures is { λ r. ⌜ r ≡ fallsOk (now (share .entry)) (now (order .entry)) count ⌝ }
+// Is j the place of a row, and does place i come ahead of it?
+fn next_ok(share: &[u64; 128], i: usize, j: usize, count: usize) -> bool
+    requires inside { ⌜ (i < count) × (count ≤ 128) ⌝ }
+    ensures is { λ r. ⌜ r ≡ ltb j count && ahead (now (share .entry)) i j ⌝ }
 {
-    let last = count - 1;
-    let mut k: usize = 0;
-    while k < last {
-        let i = place(order[k]);
-        let j = place(order[k + 1]);
-        if !ahead(share, i, j) {
-            return false;
-        }
-        k += 1;
+    if count <= j {
+        return false;
     }
-    true
+    ahead(share, i, j)
 }
 
-// Does the kept order stand?
+// Does the kept order stand: are its entries places of rows, each ahead of the next?
 pub fn order_ok(share: &[u64; 128], order: &[u16; 128], count: usize) -> bool
     requires inside { ⌜ (1 ≤ count) × (count ≤ 128) ⌝ }
     ensures is { λ r. ⌜ r ≡ placesOk (now (order .entry)) count && fallsOk (now (share .entry)) (now (order .entry)) count ⌝ }
 {
-    if !places_ok(order, count) {
+    let last = count - 1;
+    let mut i = place(order[0]);
+    if count <= i {
         return false;
     }
-    falls_ok(share, order, count)
+    let mut k: usize = 0;
+    while k < last {
+        let j = place(order[k + 1]);
+        if !next_ok(share, i, j, count) {
+            return false;
+        }
+        i = j;
+        k += 1;
+    }
+    true
 }

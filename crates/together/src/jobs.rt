@@ -9,34 +9,13 @@ use table::shorter;
 use table::wide;
 
 // Is the last arrival not later than the present tick; if there was none, is the task asleep?
-fn last_ok(arrived: bool, awake: bool, last: u64, tick: u64) -> bool
+pub fn last_ok(arrived: bool, awake: bool, last: u64, tick: u64) -> bool
     ensures is { λ r. ⌜ r ≡ lastOk arrived awake last tick ⌝ }
 {
     if arrived {
         return last <= tick;
     }
     !awake
-}
-
-// Every task?
-pub fn lasts_ok(
-    arrived: &[bool; 128],
-    awake: &[bool; 128],
-    last: &[u64; 128],
-    tick: u64,
-    count: usize,
-) -> bool
-    requires inside { ⌜ count ≤ 128 ⌝ }
-    ensures is { λ r. ⌜ r ≡ lastsOk (now (arrived .entry)) (now (awake .entry)) (now (last .entry)) tick count ⌝ }
-{
-    let mut i: usize = 0;
-    while i < count {
-        if !last_ok(arrived[i], awake[i], last[i], tick) {
-            return false;
-        }
-        i += 1;
-    }
-    true
 }
 
 // Does an awake task's last arrival plus q lie later?

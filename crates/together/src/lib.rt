@@ -6,7 +6,6 @@ ghost use Rattle.together.specs.Holds.{stateOf, holdsOf};
 use columns::order_ok;
 use columns::table_ok;
 use ground::Instant;
-use jobs::lasts_ok;
 use planes::closed_ok;
 use planes::open_ok;
 
@@ -43,16 +42,23 @@ pub fn holds_lent(
     ensures is { λ r. ⌜ r ≡ holdsOf (stateOf (tableOf (now (period .entry)) (now (exec .entry)) (now (deadline .entry)) (now (share .entry)) (now (order .entry)) count m scale)
         (present .0) going end (now (awake .entry)) (now (arrived .entry)) (now (last .entry)) (old rk rt rn) (old wk wt wn) (now (slots .entry))) ⌝ }
 {
-    if !table_ok(period, exec, deadline, share, order, count, m, scale) {
+    if !table_ok(
+        period,
+        exec,
+        deadline,
+        share,
+        order,
+        count,
+        m,
+        scale,
+        present,
+        arrived,
+        awake,
+        last,
+    ) {
         return false;
     }
     if !order_ok(share, order, count) {
-        return false;
-    }
-    if rules::CLOCK * scale < present.0 {
-        return false;
-    }
-    if !lasts_ok(arrived, awake, last, present.0 / scale, count) {
         return false;
     }
     if going {

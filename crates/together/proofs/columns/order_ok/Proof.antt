@@ -1,20 +1,64 @@
--- The places, then their order
-use mathlib.Core.Path.{sym, _∙_}
+-- Every entry so far
+use mathlib.Core.Path.{_≡_, sym, _∙_}
+use Prim.Native.Nat.{_-_}
+use native.Mathlib.Omega.{arith}
 use borrow.Author.Tests.{not-true, not-false}
-use Rattle.together.specs.Tables.{placesOk}
-use Rattle.together.proofs.Folds.{and-first, and-next}
+use Rattle.together.proofs.Orders.{Falls, falls-first, falls-outside, falls-stops, falls-more, falls-end}
 use borrow.Author.Needs.{needs}
 use Rattle.together.proofs.columns.order_ok.Statement.{statement}
 use Rattle.together.proofs.columns.order_ok.Tie as tie
 
-returns : tie.Need-returns
-returns c = let a = c .before .before .args in sym (and-first (placesOk (a .order .now) (a .count)) _ (sym (c .before .places-ok .ensures) ∙ not-true _ (c .if1 .taken)))
+abbrev Inv-loop : tie.InvT-loop
+Inv-loop share order count last i₀ k₀ i k = Falls share order count k i
 
-falls-ok-requires : tie.Need-falls-ok-requires
-falls-ok-requires c κs = let p = c .before .before .pre in (p .0, p .1, sym (c .before .places-ok .ensures) ∙ not-false _ (c .if1 .left))
+abbrev μ-loop : tie.MeasureT-loop
+μ-loop share order count last i₀ k₀ i k = last - k
 
-returns-2 : tie.Need-returns-2
-returns-2 c = let a = c .before .before .before .args in c .falls-ok .ensures ∙ sym (and-next (placesOk (a .order .now) (a .count)) _ (sym (c .before .before .places-ok .ensures) ∙ not-false _ (c .before .if1 .left)))
+returns : tie.Need-returns Inv-loop μ-loop
+returns c = let a = c .before .before .before .args in sym (falls-outside (a .share .now) (a .order .now) (a .count) _ _ (c .before .place .ensures) (c .before .before .before .pre .0) (c .if1 .taken))
+
+loop-holds : tie.Need-loop-holds Inv-loop μ-loop
+loop-holds c = let a = c .before .before .before .args in falls-first (a .share .now) (a .order .now) (a .count) _ (c .before .place .ensures) (c .if1 .left)
+
+next-ok-requires : tie.Need-next-ok-requires Inv-loop μ-loop
+next-ok-requires c κs = let k = c .before .before .before .loop in (k .inv .inside, c .before .before .before .before .before .before .before .pre .1)
+
+returns-2 : tie.Need-returns-2 Inv-loop μ-loop
+returns-2 c =
+    let a = c .before .before .before .before .before .before .before .before .before .args in
+    let k = c .before .before .before .before .before .loop in
+    sym (falls-stops (a .share .now) (a .order .now) (a .count) (k .k) (k .i) _ (k .inv) (c .before .before .place2 .ensures) (c .before .before .before .before .loop-test .taken) (sym (c .before .next-ok .ensures) ∙ not-true _ (c .if2 .taken)))
+
+loop-again : tie.Need-loop-again Inv-loop μ-loop
+loop-again c =
+    let a = c .before .before .before .before .before .before .before .before .before .args in
+    let k = c .before .before .before .before .before .loop in
+    falls-more (a .share .now) (a .order .now) (a .count) (k .k) (k .i) _ (k .inv) (c .before .before .place2 .ensures) (sym (c .before .next-ok .ensures) ∙ not-false _ (c .if2 .left))
+
+returns-3 : tie.Need-returns-3 Inv-loop μ-loop
+returns-3 c =
+    let a = c .before .before .before .before .before .args in
+    let k = c .before .loop in
+    falls-end (a .share .now) (a .order .now) (a .count) (k .k) (k .i) (k .inv) (c .before .before .before .before .before .pre .0) (c .loop-test .left)
 
 pub order-ok-spec : {M : Type 1} → statement M
-order-ok-spec = tie.close (tie.spec (λ c κs. search needs) returns falls-ok-requires returns-2)
+order-ok-spec =
+    tie.close
+    (tie.spec
+    Inv-loop
+    μ-loop
+    (λ c. search needs)
+    (λ c. search needs)
+    (λ c κs. search needs)
+    returns
+    loop-holds
+    (λ c. search needs)
+    (λ c. search needs)
+    (λ c. search needs)
+    (λ c κs. search needs)
+    next-ok-requires
+    returns-2
+    (λ c. search needs)
+    (λ c. search needs)
+    loop-again
+    returns-3)
