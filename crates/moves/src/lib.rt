@@ -250,8 +250,15 @@ pub fn arrive_in(
     awake[i] = true;
     arrived[i] = true;
     last[i] = tick;
+    // field by field: handed on whole, the moment would be copied with its padding
     if !moment.going {
-        return moment;
+        let lengths = moment.lengths;
+        return Moment {
+            now: present,
+            going: moment.going,
+            end_tick: moment.end_tick,
+            lengths: lengths,
+        };
     }
     let close = Instant(moment.end_tick * terms.scale);
     let plane = Plane {

@@ -1,5 +1,6 @@
 // The table's part: rows, scale, shares, and the kept order.
 ghost use mathlib.Core.Path.{_≡_};
+ghost use mathlib.Core.List.{List};
 ghost use mathlib.Core.Bool.{true, false, _&&_};
 ghost use Prim.Native.Nat.{ℕ, _*_, _/_, _≤_, _<_, min};
 ghost use lib.Dec.{leb, ltb};
@@ -148,7 +149,6 @@ pub fn table_ok(
     exec: &[u32; 128],
     deadline: &[u32; 128],
     share: &[u64; 128],
-    order: &[u16; 128],
     count: usize,
     m: usize,
     scale: u64,
@@ -157,8 +157,8 @@ pub fn table_ok(
     awake: &[bool; 128],
     last: &[u64; 128],
 ) -> bool
-    ensures is { λ r. ⌜ r ≡ tableOk (tableOf (now (period .entry)) (now (exec .entry)) (now (deadline .entry)) (now (share .entry)) (now (order .entry)) count m scale)
-        && (leb (present .0) (clock * scale) && lastsOk (now (arrived .entry)) (now (awake .entry)) (now (last .entry)) (present .0 / scale) count) ⌝ }
+    ensures is { λ r. ⌜ ((order : List ℕ) → r ≡ tableOk (tableOf (now (period .entry)) (now (exec .entry)) (now (deadline .entry)) (now (share .entry)) order count m scale)
+        && (leb (present .0) (clock * scale) && lastsOk (now (arrived .entry)) (now (awake .entry)) (now (last .entry)) (present .0 / scale) count)) ⌝ }
 {
     if !processors_ok(m) {
         return false;

@@ -1,7 +1,8 @@
 // The tasks' jobs: last arrivals, the tasks of a closed plane, and the limits of an open one.
 ghost use mathlib.Core.Path.{_≡_};
-ghost use mathlib.Core.Bool.{true};
-ghost use Prim.Native.Nat.{_/_, _≤_, _<_, min};
+ghost use mathlib.Core.Bool.{true, false};
+ghost use Prim.Native.Nat.{ℕ, _+_, _/_, _≤_, _<_, min};
+ghost use lib.ListN.{getD};
 ghost use Rattle.together.specs.Clauses.{lastOk, lastsOk, restOk, restsOk, ceilOf, soonestOf, limitOk, limitsOk};
 ghost use Rattle.rules.specs.Bounds.{clock};
 use ground::Instant;
@@ -33,13 +34,12 @@ fn rest_ok(awake: bool, last: u64, period: u32, deadline: u32, tick: u64) -> boo
 pub fn rests_ok(
     period: &[u32; 128],
     deadline: &[u32; 128],
-    arrived: &[bool; 128],
     awake: &[bool; 128],
     last: &[u64; 128],
     tick: u64,
     count: usize,
 ) -> bool
-    requires small { ⌜ (count ≤ 128) × (tick ≤ clock) × (lastsOk (now arrived) (now awake) (now last) tick count ≡ true) ⌝ }
+    requires small { ⌜ (count ≤ 128) × ((i : ℕ) → i < count → getD (now awake) i false ≡ true → getD (now last) i 0 ≤ clock) ⌝ }
     ensures is { λ r. ⌜ r ≡ restsOk (now (period .entry)) (now (deadline .entry)) (now (awake .entry)) (now (last .entry)) tick count ⌝ }
 {
     let mut i: usize = 0;
@@ -89,7 +89,7 @@ fn limit_ok(
     ceil: u64,
     end: u64,
 ) -> bool
-    requires small { ⌜ (awake ≡ true → last ≤ clock) × (arrived ≡ true → last ≤ clock) × (ceil ≤ 4294967296) ⌝ }
+    requires small { ⌜ (awake ≡ true → last ≤ clock) × (arrived ≡ true → last ≤ clock) × (ceil ≤ clock + 1) ⌝ }
     ensures is { λ r. ⌜ r ≡ limitOk awake arrived last period deadline ceil end ⌝ }
 {
     let q = wide(shorter(period, deadline));
@@ -107,12 +107,12 @@ pub fn limits_ok(
     awake: &[bool; 128],
     arrived: &[bool; 128],
     last: &[u64; 128],
-    tick: u64,
     ceil: u64,
     end: u64,
     count: usize,
 ) -> bool
-    requires small { ⌜ (count ≤ 128) × (tick ≤ clock) × (ceil ≤ 4294967296) × (lastsOk (now arrived) (now awake) (now last) tick count ≡ true) ⌝ }
+    requires small { ⌜ (count ≤ 128) × (ceil ≤ clock + 1)
+        × ((i : ℕ) → i < count → (getD (now awake) i false ≡ true → getD (now last) i 0 ≤ clock) × (getD (now arrived) i false ≡ true → getD (now last) i 0 ≤ clock)) ⌝ }
     ensures is { λ r. ⌜ r ≡ limitsOk (now (period .entry)) (now (deadline .entry)) (now (awake .entry)) (now (arrived .entry)) (now (last .entry)) ceil end count ⌝ }
 {
     let mut i: usize = 0;

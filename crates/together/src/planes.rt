@@ -1,6 +1,7 @@
 // A plane, closed or open.
 ghost use mathlib.Core.Path.{_≡_};
-ghost use mathlib.Core.Bool.{true, _&&_};
+ghost use mathlib.Core.Bool.{true, false, _&&_};
+ghost use lib.ListN.{getD};
 ghost use Prim.Native.Nat.{ℕ, _*_, _/_, _≤_, _<_};
 ghost use Rattle.state.specs.Sound.{soundBy};
 ghost use Rattle.queue.specs.Lent.{old};
@@ -22,7 +23,6 @@ pub fn closed_ok(
     scale: u64,
     present: Instant,
     awake: &[bool; 128],
-    arrived: &[bool; 128],
     last: &[u64; 128],
     rk: &[u64; 128],
     rt: &[u16; 128],
@@ -32,7 +32,8 @@ pub fn closed_ok(
     wn: usize,
     slots: &[u16; 16],
 ) -> bool
-    requires small { ⌜ (count ≤ 128) × (m ≤ 16) × (0 < scale) × (present .0 / scale ≤ clock) × (lastsOk (now arrived) (now awake) (now last) (present .0 / scale) count ≡ true) ⌝ }
+    requires small { ⌜ (count ≤ 128) × (m ≤ 16) × (0 < scale) × (present .0 / scale ≤ clock)
+        × ((i : ℕ) → i < count → getD (now awake) i false ≡ true → getD (now last) i 0 ≤ clock) ⌝ }
     ensures is { λ r. ⌜ ((end : ℕ) → r ≡ soundBy count m (present .0) end (now (awake .entry)) (old rk rt rn) (old wk wt wn) (now (slots .entry))
         && closedBy (now (period .entry)) (now (deadline .entry)) count scale (present .0) (now (awake .entry)) (now (last .entry)) rn wn) ⌝ }
 {
@@ -46,7 +47,7 @@ pub fn closed_ok(
     if wn != 0 {
         return false;
     }
-    if !rests_ok(period, deadline, arrived, awake, last, tick, count) {
+    if !rests_ok(period, deadline, awake, last, tick, count) {
         return false;
     }
     sound(
@@ -93,17 +94,7 @@ pub fn open_ok(
 {
     let tick = present.0 / scale;
     let top = ceil(present, scale);
-    if !limits_ok(
-        period,
-        deadline,
-        awake,
-        arrived,
-        last,
-        tick,
-        top,
-        end,
-        count,
-    ) {
+    if !limits_ok(period, deadline, awake, arrived, last, top, end, count) {
         return false;
     }
     let close = Instant(end * scale);

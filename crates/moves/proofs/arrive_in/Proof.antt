@@ -13,18 +13,18 @@ div-tick c = let p = c .before .before .before .pre .1 in arrive-scale _ _ (p .0
 
 returns : tie.Need-returns
 returns c =
-    let a = c .before .before .before .before .before .before .args in
-    λ z. arrived-off (arrivalState z (a .terms) (a .moment) (a .share) (a .awake) (a .arrived) (a .last) (a .rk) (a .rt) (a .wk) (a .wt) (a .slots)) _ (not-true _ (c .if1 .taken))
+    let a = c .before .before .before .before .before .before .before .args in
+    λ z. arrived-off (arrivalState z (a .terms) (a .moment) (a .share) (a .awake) (a .arrived) (a .last) (a .rk) (a .rt) (a .wk) (a .wt) (a .slots)) _ (not-true _ (c .before .if1 .taken))
 
-mul-close : tie.Need-mul-t25
+mul-close : tie.Need-mul-t26
 mul-close c = record { fits = end-fits _ (c .before .before .before .before .before .before .before .before .pre .1 .0) (not-false _ (c .before .before .if1 .left)) .0 }
 
-sub-ticks : tie.Need-sub-t25
+sub-ticks : tie.Need-sub-t26
 sub-ticks c =
     let p = c .before .before .before .before .before .before .before .before .before .pre .1 in
     omega (arith, arrive-later _ _ (p .0) (p .1) (not-false _ (c .before .before .before .if1 .left)))
 
-mul-amount : tie.Need-mul-t33
+mul-amount : tie.Need-mul-t34
 mul-amount c =
     let p = c .before .before .before .before .before .before .before .before .before .pre .1 in
     record { fits = arrive-fits _ _ (p .0) (p .1) (not-false _ (c .before .before .before .if1 .left)) }

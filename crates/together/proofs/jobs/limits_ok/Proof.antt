@@ -7,28 +7,26 @@ use borrow.Author.Tests.{not-true, not-false}
 use lib.ListN.{getD}
 use Rattle.queue.specs.Below.{allBelow}
 use Rattle.together.specs.Clauses.{limitOk, limitsOk}
-use Rattle.together.proofs.Bounds.{lasts-small}
 use Rattle.together.proofs.Folds.{all-none, all-more, all-fails, all-whole}
 use borrow.Author.Needs.{needs}
 use Rattle.together.proofs.jobs.limits_ok.Statement.{statement}
 use Rattle.together.proofs.jobs.limits_ok.Tie as tie
 
 abbrev Inv-loop : tie.InvT-loop
-Inv-loop period deadline awake arrived last tick ceil end count i₀ i = allBelow i (λ j. limitOk (getD awake j false) (getD arrived j false) (getD last j 0) (getD period j 0) (getD deadline j 0) ceil end) ≡ true
+Inv-loop period deadline awake arrived last ceil end count i₀ i = allBelow i (λ j. limitOk (getD awake j false) (getD arrived j false) (getD last j 0) (getD period j 0) (getD deadline j 0) ceil end) ≡ true
 
 abbrev μ-loop : tie.MeasureT-loop
-μ-loop period deadline awake arrived last tick ceil end count i₀ i = count - i
+μ-loop period deadline awake arrived last ceil end count i₀ i = count - i
 
 loop-holds : tie.Need-loop-holds Inv-loop μ-loop
 loop-holds c = let a = c .args in all-none (λ j. limitOk (getD (a .awake .now) j false) (getD (a .arrived .now) j false) (getD (a .last .now) j 0) (getD (a .period .now) j 0) (getD (a .deadline .now) j 0) (a .ceil) (a .end))
 
 limit-ok-requires : tie.Need-limit-ok-requires Inv-loop μ-loop
 limit-ok-requires c κs =
-    let a = c .before .before .before .before .before .before .before .args in
     let p = c .before .before .before .before .before .before .before .pre in
     let k = c .before .before .before .before .before .before .loop in
-    let h = lasts-small (a .arrived .now) (a .awake .now) (a .last .now) (a .tick) (a .count) (k .i) (p .3) (omega arith) in
-    ((λ w. let x = h .0 w in omega arith), (λ w. let x = h .1 w in omega arith), p .2)
+    let h = p .2 (k .i) (omega arith) in
+    (h .0, h .1, p .1)
 
 returns : tie.Need-returns Inv-loop μ-loop
 unfolding limitsOk

@@ -7,23 +7,25 @@ use borrow.Author.Tests.{not-true, not-false}
 use lib.ListN.{getD}
 use Rattle.queue.specs.Below.{allBelow}
 use Rattle.together.specs.Clauses.{restOk, restsOk}
-use Rattle.together.proofs.Bounds.{lasts-small}
 use Rattle.together.proofs.Folds.{all-none, all-more, all-fails, all-whole}
 use borrow.Author.Needs.{needs}
 use Rattle.together.proofs.jobs.rests_ok.Statement.{statement}
 use Rattle.together.proofs.jobs.rests_ok.Tie as tie
 
 abbrev Inv-loop : tie.InvT-loop
-Inv-loop period deadline arrived awake last tick count i₀ i = allBelow i (λ j. restOk (getD awake j false) (getD last j 0) (min (getD period j 0) (getD deadline j 0)) tick) ≡ true
+Inv-loop period deadline awake last tick count i₀ i = allBelow i (λ j. restOk (getD awake j false) (getD last j 0) (min (getD period j 0) (getD deadline j 0)) tick) ≡ true
 
 abbrev μ-loop : tie.MeasureT-loop
-μ-loop period deadline arrived awake last tick count i₀ i = count - i
+μ-loop period deadline awake last tick count i₀ i = count - i
 
 loop-holds : tie.Need-loop-holds Inv-loop μ-loop
 loop-holds c = let a = c .args in all-none (λ j. restOk (getD (a .awake .now) j false) (getD (a .last .now) j 0) (min (getD (a .period .now) j 0) (getD (a .deadline .now) j 0)) (a .tick))
 
 rest-ok-requires : tie.Need-rest-ok-requires Inv-loop μ-loop
-rest-ok-requires c κs = let a = c .before .before .before .before .before .before .args in let p = c .before .before .before .before .before .before .pre in let k = c .before .before .before .before .before .loop in λ w. (let h = lasts-small (a .arrived .now) (a .awake .now) (a .last .now) (a .tick) (a .count) (k .i) (p .2) (omega arith) .0 w in omega arith)
+rest-ok-requires c κs =
+    let p = c .before .before .before .before .before .before .pre in
+    let k = c .before .before .before .before .before .loop in
+    p .1 (k .i) (omega arith)
 
 returns : tie.Need-returns Inv-loop μ-loop
 unfolding restsOk

@@ -56,7 +56,7 @@ returns-3 c =
     λ end. sym (second-fails (soundBy (a .count) (a .m) (a .present .0) end (a .awake .now) r w (a .slots .now)) _ (and-next K _ e ∙ and-next N _ f ∙ and-first M _ g))
 
 rests-ok-requires : tie.Need-rests-ok-requires
-rests-ok-requires c κs = let p = c .before .before .before .before .before .pre in (p .0, p .3, p .4)
+rests-ok-requires c κs = let p = c .before .before .before .before .before .pre in (p .0, p .4)
 
 returns-4 : tie.Need-returns-4
 unfolding closedBy

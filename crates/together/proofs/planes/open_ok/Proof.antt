@@ -1,14 +1,14 @@
 -- Limits first, so that the end is near; then the rest
 use mathlib.Core.Path.{_≡_, sym, _∙_, ap}
 use mathlib.Core.Bool.{true, false}
-use Prim.Native.Nat.{ℕ, _*_}
+use Prim.Native.Nat.{ℕ, _*_, _/_}
 use native.Mathlib.Omega.{arith}
 use borrow.Author.Tests.{not-true, not-false, lt-ltb, le-ltb}
 use lib.Dec.{ltb}
 use Rattle.state.specs.Sound.{soundBy}
 use Rattle.queue.specs.Lent.{at}
 use Rattle.together.specs.Clauses.{amountsOk, ceilOf, limitsOk, openBy}
-use Rattle.together.proofs.Bounds.{tick-small, ceil-small, end-near, end-fits, sound-short}
+use Rattle.together.proofs.Bounds.{tick-small, ceil-small, end-near, end-fits, sound-short, lasts-small}
 use Rattle.together.proofs.Folds.{and-first, and-next, second-fails, second-holds}
 use Rattle.together.proofs.planes.open_ok.Statement.{statement}
 use Rattle.together.proofs.planes.open_ok.Tie as tie
@@ -24,8 +24,12 @@ limits-ok-requires c κs =
     let a = c .before .before .args in
     let p = c .before .before .pre in
     let t = tick-small (a .present .0) (a .scale) (p .scale-in .0) (p .clock) in
-    let z = c .ceil .ensures in
-    (p .count .1, t, omega (arith, ceil-small (a .present .0) (a .scale)), p .lasts)
+    let z = c .ceil .ensures in (
+      p .count .1,
+      omega (arith, ceil-small (a .present .0) (a .scale)),
+      λ i h. let x = lasts-small (a .arrived .now) (a .awake .now) (a .last .now) (a .present .0 / a .scale) (a .count) i (p .lasts) h in
+          ((λ w. let y = x .0 w in omega arith), λ w. let y = x .1 w in omega arith),
+    )
 
 returns : tie.Need-returns
 unfolding openBy
