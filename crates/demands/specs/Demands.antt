@@ -125,6 +125,7 @@ calling r (runCall horizon room) =
 unfoldable pub callingAll : Calls → List Call → Calls
 callingAll r cs = foldl calling r cs
 
+-- from a table's bytes and m
 abbrev pub starting : List ℕ → ℕ → Calls
 starting bytes m = record { state = admitOf bytes m .state; records = []; arrivals = [] }
 
@@ -132,7 +133,7 @@ starting bytes m = record { state = admitOf bytes m .state; records = []; arriva
 abbrev pub seen : Calls → Run
 seen r = record { state = view (r .state); records = r .records; arrivals = r .arrivals }
 
--- what the next call is answered
+-- what the next call is answered, by these arrive and step
 abbrev pub NextOf : List Row → Calls → Type 0
 NextOf rows c = Next rows (seen c) (λ task. arriveOf (c .state) task .answer) (λ horizon room. let x = stepOf (c .state) horizon (length room) in (x .answer, x .state .now .0))
 
@@ -143,6 +144,7 @@ pub record Demand3 : Type 0 where
       → Job (rowsOf bytes) (seen (callingAll (starting bytes m) (before ++ arriveCall task ∷ later))) task (tickAt (callingAll (starting bytes m) before .state))
   -- one processor at an instant, records that follow one another, a record's end at every plane end
   pub courses : (bytes : List ℕ) (m : ℕ) → admitOf bytes m .answer ≡ Done → (calls : List Call) → Course (rowsOf bytes) m (seen (callingAll (starting bytes m) calls))
+  -- what the next call is answered
   pub nexts : (bytes : List ℕ) (m : ℕ) → admitOf bytes m .answer ≡ Done → (calls : List Call) → NextOf (rowsOf bytes) (callingAll (starting bytes m) calls)
   -- an arrival that is taken leaves every other task as it was, but for who has a processor
   pub others : (s : State) (task : ℕ) → Sized s → arriveOf s task .answer ≡ Done → (j : ℕ) → suc j ≢ task → Untouched (at j (tasksAt s)) (at j (tasksAt (arriveOf s task .state)))

@@ -10,6 +10,7 @@ use native.Mathlib.Omega.{arith}
 use native.Mathlib.Decide.{decLt}
 use lib.ListN.{length, getD, length-map}
 use Rattle.ground.specs.Tests.{if_then_else_}
+use Rattle.rules.specs.Bounds.{clock, recordSize}
 use Rattle.rules.specs.declared.Answer.the-variants.{Done}
 use Rattle.rules.specs.Admission.{admit}
 use lib.ListN.{replicate}
@@ -197,7 +198,7 @@ next-of rows r G = record { takes = takes; moves = moves }
     answered : (h : ℕ) (room : List ℕ) → stepAnswer (r .state) h (length room) ≡ Done → step (r .state) h room .answer ≡ Done
     answered h room d = unfold step in d
 
-    moves : (horizon : ℕ) (room : List ℕ) → 48 ≤ length room → horizon ≤ 4294967295 → r .state .now < horizon * scaleOf rows
+    moves : (horizon : ℕ) (room : List ℕ) → recordSize ≤ length room → horizon ≤ clock → r .state .now < horizon * scaleOf rows
         → (step (r .state) horizon room .answer ≡ Done) × (r .state .now < step (r .state) horizon room .state .now) × (step (r .state) horizon room .state .now ≤ horizon * scaleOf rows)
     moves h room a b c =
         let lt : r .state .now < h * r .state .scale = omega (arith, c, ap (λ x. h * x) sc) in

@@ -51,6 +51,7 @@ pub record Next (rows : List Row) (h : Run) (arrives : ℕ → Answer) (steps : 
   pub moves : (horizon : ℕ) (room : List ℕ) → recordSize ≤ length room → horizon ≤ clock → h.state.now < horizon * scaleOf rows
       → (steps horizon room .0 ≡ Done) × (h.state.now < steps horizon room .1) × (steps horizon room .1 ≤ horizon * scaleOf rows)
 
+-- of the rules' arrive and step
 abbrev pub NextOf : List Row → Run → Type 0
 NextOf rows h = Next rows h (λ task. arrive h.state task .answer) (λ horizon room. let x = step h.state horizon room in (x .answer, x .state .now))
 
@@ -71,6 +72,7 @@ pub record Demand3 : Type 0 where
   pub jobs : (bytes : List ℕ) (m : ℕ) → admit bytes m .answer ≡ Done → (before : List Call) (task : ℕ) → arrive (runOf bytes m before .state) task .answer ≡ Done → (later : List Call)
       → Job (rowsOf bytes) (runOf bytes m (before ++ arriveCall task ∷ later)) task (tickOf (runOf bytes m before .state))
   pub courses : (bytes : List ℕ) (m : ℕ) → admit bytes m .answer ≡ Done → (calls : List Call) → Course (rowsOf bytes) m (runOf bytes m calls)
+  -- what the next call is answered
   pub nexts : (bytes : List ℕ) (m : ℕ) → admit bytes m .answer ≡ Done → (calls : List Call) → NextOf (rowsOf bytes) (runOf bytes m calls)
 
 -- NOTHING ELSE MOVES

@@ -71,6 +71,7 @@ unfoldable pub limitsBy : ℕ → List Row → List Arrival → ℕ → List ℕ
 limitsBy n [] xs tick = []
 limitsBy n (r ∷ rs) xs tick = limitBy (shorter r) tick (cameBy n tick xs) ∷ limitsBy (suc n) rs xs tick
 
+-- the least of some ticks
 unfoldable pub earliest : List ℕ → ℕ
 earliest [] = 0
 earliest (x ∷ []) = x
