@@ -3,7 +3,7 @@ use mathlib.Core.Bool.{Bool}
 use Prim.Native.Nat.{ℕ}
 use denote.Ref.{RefT, now}
 use denote.Triple.Both.{Both}
-use Rattle.queue.specs.Lent.{Lent}
+use Rattle.ground.specs.Lent.{Lent}
 use Rattle.state.specs.declared.State.{State}
 use Rattle.moves.specs.declared.Terms.{Terms}
 use Rattle.moves.specs.declared.Moment.{Moment}

@@ -6,11 +6,12 @@ ghost use lib.ListN.{length};
 ghost use Rattle.moves.specs.Whole.{Whole};
 ghost use Rattle.moves.specs.Lent.{old};
 ghost use Rattle.together.specs.Holds.{holdsOf};
-ghost use Rattle.calls.specs.Admit.{admitOf};
+ghost use Rattle.admission.specs.Admit.{admitOf};
 ghost use Rattle.bench_step.specs.Moments.{termsOf, momentOf, momentHere, momentOld, momentNew, inCall, byCall};
 ghost use Rattle.bench_step.specs.Held.{Taken, doneOf, AllTaken, doneAll};
 ghost use Rattle.bench_step.specs.Made.{madeAll, EndsAt};
-ghost use Rattle.text.specs.Output.{Put, recordLines};
+ghost use Rattle.text.specs.Puts.{Put};
+ghost use Rattle.print.specs.Printed.{recordLines};
 use ground::Instant;
 use moves::Moment;
 use moves::Terms;
@@ -240,7 +241,7 @@ fn make_all(first: State, list: &[u64], room: &mut [u8]) -> State
 pub extern "C" fn public_calls(table: &[u8], m: usize, list: &[u64], room: &mut [u8]) -> u64
     ensures is { λ r. ⌜ r ≡ madeAll (length (now (room .entry))) (admitOf (now (table .entry)) m .state) (now (list .entry)) .now .0 ⌝ }
 {
-    let a = calls::admit(table, m);
+    let a = admission::admit(table, m);
     let first = a.state;
     let s = make_all(first, list, room);
     let present = s.now;
@@ -253,39 +254,24 @@ pub extern "C" fn record_lines(out: &mut [u8], room: &[u8], n: usize, m: usize) 
     requires room { ⌜ (m ≤ 16) × (48 * n ≤ length (now room)) × (138 * n ≤ length (now out)) ⌝ }
     ensures is { λ r. ⌜ Put (now (out .entry)) 0 (recordLines m n (now (room .entry))) (now (out .exit)) r ⌝ }
 {
-    text::put_records(out, room, n, m)
+    print::put_records(out, room, n, m)
 }
 
-// Runs to a horizon, part by part; the lines of each part are written over those of the one before.
-fn lines_to(s: State, horizon: u64, out: &mut [u8; 65536]) -> u64
-    ensures ends { λ r. ⌜ EndsAt horizon s r ⌝ }
+// The whole listing of a text, each chunk written over the one before: the program without its reading and writing.
+// The present at the end.
+#[no_mangle]
+pub extern "C" fn public_lines(text: &[u8], out: &mut [u8; 65536]) -> u64
+    ensures ends { λ r. ⌜ EndsAt (now (text .entry)) r ⌝ }
 {
-    let mut state = s;
+    let mut c = course::first();
     loop {
-        let r = lines::run_lines(state, horizon, out);
-        let answer = r.answer;
-        if !table::is_done(answer) {
+        let stage = c.stage;
+        if course::is_ended(stage) {
+            let state = c.state;
             let present = state.now;
             return present.0;
         }
-        state = r.state;
+        let r = listing::next(text, c, out);
+        c = r.cursor;
     }
-}
-
-// The present after these calls on an admitted table, and then a run to a horizon, as text.
-#[no_mangle]
-pub extern "C" fn public_lines(
-    table: &[u8],
-    m: usize,
-    list: &[u64],
-    horizon: u64,
-    out: &mut [u8; 65536],
-) -> u64
-    ensures ends { λ r. ⌜ EndsAt horizon (madeAll 48 (admitOf (now (table .entry)) m .state) (now (list .entry))) r ⌝ }
-{
-    let a = calls::admit(table, m);
-    let first = a.state;
-    let mut room = [0u8; 48];
-    let s = make_all(first, list, &mut room);
-    lines_to(s, horizon, out)
 }

@@ -1,63 +1,30 @@
 -- Each call is the rules' call, seen through the view
 use mathlib.Core.Path.{_≡_, refl, sym, _∙_, ap, subst}
-use mathlib.Core.Bool.{Bool, true, false, not}
 use mathlib.Core.List.{List, _++_}
-use Prim.Native.Nat.{ℕ, _-_, _≤_, _<_}
-use native.Mathlib.Omega.{arith}
-use lib.Dec.{leb}
+use Prim.Native.Nat.{ℕ, _-_}
 use lib.ListN.{length, drop}
 use Rattle.rules.specs.declared.Answer.{Answer}
-use Rattle.rules.specs.declared.Answer.the-variants.{Done, TaskNumber, BetweenTicks, TooSoon}
+use Rattle.rules.specs.declared.Answer.the-variants.{Done}
 use Rattle.state.specs.declared.State.{State}
 use Rattle.rules.specs.State as Rules
 use Rattle.rules.specs.Calls as Rule
-use Rattle.ground.specs.Tests.{if_then_else_, Says}
-use Rattle.ground.proofs.Tests.{leb-says, and-says, is-true, of-true}
+use Rattle.ground.specs.Tests.{if_then_else_}
 use Rattle.rules.specs.Answers.{isDone}
 use Rattle.rules.specs.Calls.{moving}
-use Rattle.rules.specs.Holds.{holds}
 use Rattle.rules.specs.Reasons.{ArriveReason, StepReason, Comes}
 use Rattle.rules.specs.Record.{Record, recordBytes}
-use Rattle.rules.specs.State.{Task, at}
 use Rattle.rules.proofs.Jobs.{done-comes, by-answer}
-use Rattle.rules.proofs.Holding.{holds-says}
 use Rattle.rules.proofs.Refusing.{arrive-answers, step-answers}
-use Rattle.state.specs.Machine.{tickAt, movedOf, arrivedOf}
-use Rattle.state.specs.View.{tasksAt, view, Sized}
-use Rattle.together.specs.Holds.{holdsOf}
-use Rattle.together.proofs.Holding.{holding-says}
+use Rattle.state.specs.Machine.{movedOf, arrivedOf}
+use Rattle.state.specs.View.{view}
 use Rattle.moves.specs.Whole.{Whole}
-use Rattle.moves.proofs.Keeping.{tasks-count, task-at, step-whole, arrive-whole}
-use Rattle.calls.specs.Arrive.{taskIn, wholeTick, soonAgain, arriveAnswerOf, arriveOf}
-use Rattle.calls.specs.Step.{movesAnswer, stepAnswerOf, stepOf, stepRoom}
-
--- the check says that the state is whole
-pub holds-whole : (s : State) → Sized s → holdsOf s ≡ true → Whole s
-holds-whole s z h = let w = of-true (holdsOf s) (holding-says s z (z .order)) h in record { sized = z; sound = w .0; together = w .1; order = w .2 }
-
-pub whole-holds : (s : State) → Whole s → holdsOf s ≡ true
-whole-holds s W = is-true (holdsOf s) (holding-says s (W .sized) (W .sized .order)) (W .sound, W .together, W .order)
-
-view-holds : (s : State) → Whole s → holds (view s) ≡ true
-view-holds s W = is-true (holds (view s)) (holds-says (view s)) (W .together)
-
--- ANSWERS
-soon-same : (s : State) (i : ℕ) → i < s .table .count → soonAgain (tickAt s) (s .table .period) (s .jobs .arrived) (s .jobs .last) i ≡ Rule.tooSoon (Rules.tickOf (view s)) (at i (tasksAt s))
-soon-same s i h = ap (λ (t : Task). Rule.tooSoon (Rules.tickOf (view s)) t) (sym (task-at s i h))
-
-pub arrive-same : (s : State) (task : ℕ) → Whole s → arriveAnswerOf s task ≡ Rule.arriveAnswer (view s) task
-unfolding arriveAnswerOf Rule.arriveAnswer
-arrive-same s task W = rw (whole-holds s W, view-holds s W, tasks-count s) (go (taskIn (s .table .count) task) (and-says (1 ≤ task) (task ≤ s .table .count) (leb 1 task) (leb task (s .table .count)) (leb-says 1 task) (leb-says task (s .table .count))))
-  where
-    go : (b : Bool) → Says ((1 ≤ task) × (task ≤ s .table .count)) b
-        → (if not b then TaskNumber else (if not (wholeTick (s .table .scale) (s .now .0)) then BetweenTicks else (if soonAgain (tickAt s) (s .table .period) (s .jobs .arrived) (s .jobs .last) (task - 1) then TooSoon else Done)))
-        ≡ (if not b then TaskNumber else (if not (wholeTick (s .table .scale) (s .now .0)) then BetweenTicks else (if Rule.tooSoon (Rules.tickOf (view s)) (at (task - 1) (tasksAt s)) then TooSoon else Done)))
-    go false h = refl
-    go true h = ap (λ (x : Bool). if not (wholeTick (s .table .scale) (s .now .0)) then BetweenTicks else (if x then TooSoon else Done)) (soon-same s (task - 1) (omega (arith, h)))
-
-pub step-same : (s : State) (h n : ℕ) → Whole s → stepAnswerOf s h n ≡ Rule.stepAnswer (view s) h n
-unfolding stepAnswerOf movesAnswer Rule.stepAnswer
-step-same s h n W = rw (whole-holds s W, view-holds s W)
+use Rattle.moves.proofs.Keeping.{step-whole, arrive-whole}
+use Rattle.refusals.specs.Arrive.{arriveAnswerOf}
+use Rattle.refusals.specs.Step.{stepAnswerOf}
+use Rattle.refusals.proofs.Agreeing.{arrive-same, step-same}
+use Rattle.inplace.specs.Step.{stepRoom}
+use Rattle.calls.specs.Arrive.{arriveOf}
+use Rattle.calls.specs.Step.{stepOf}
 
 -- ARRIVE
 arrive-reason : (s : State) (task : ℕ) → Whole s → arriveAnswerOf s task ≡ Done → Comes (view s) (task - 1)

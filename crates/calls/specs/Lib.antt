@@ -1,4 +1,3 @@
-pub mod Admit
 pub mod Arrive
 pub mod Step
 pub mod Run

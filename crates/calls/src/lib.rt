@@ -1,19 +1,14 @@
-// The calls: admit, arrive, step, and run for many steps at once. None of them asks anything of its arguments.
+// The calls by value: arrive, step, and run for many steps at once. None of them asks anything of its arguments.
 ghost use mathlib.Core.Path.{_≡_};
 ghost use mathlib.Core.Bool.{true};
 ghost use lib.ListN.{length};
-ghost use Rattle.moves.specs.Fresh.{freshState};
-ghost use Rattle.calls.specs.Admit.{admitOf};
-ghost use Prim.Native.Nat.{_+_, _≤_};
-ghost use lib.Dec.{ltb};
-ghost use Rattle.calls.specs.Arrive.{comesBy, Dated, MayArrive, arriveOf};
-ghost use Rattle.moves.specs.Lent.{here, old};
-ghost use Rattle.state.specs.View.{Sized};
 ghost use Rattle.rules.specs.Answers.{isDone};
-ghost use Rattle.rules.specs.Bounds.{clock};
-ghost use Rattle.calls.specs.Step.{Checked, Ahead, MayStep, stepOf, stepRoom};
-ghost use Rattle.calls.specs.Run.{goesOn, runOf, runRoom};
-use ground::Instant;
+ghost use Rattle.refusals.specs.Step.{Ahead};
+ghost use Rattle.inplace.specs.Step.{stepRoom};
+ghost use Rattle.inplace.specs.Run.{runRoom};
+ghost use Rattle.calls.specs.Arrive.{arriveOf};
+ghost use Rattle.calls.specs.Step.{stepOf};
+ghost use Rattle.calls.specs.Run.{runOf};
 use moves::Moment;
 use moves::Terms;
 use plane::Lengths;
@@ -21,14 +16,6 @@ use queue::Queue;
 use rules::Answer;
 use state::Jobs;
 use state::State;
-use table::Table;
-
-// What admission answers: the number, the row that it names or 0, the state.
-pub struct Admitted {
-    pub answer: Answer,
-    pub row: usize,
-    pub state: State,
-}
 
 // What an arrival answers. Here and below the state stands first: with one byte ahead of it, the compiler copies it once more.
 pub struct Arrived {
@@ -49,236 +36,7 @@ pub struct Ran {
     pub records: usize,
 }
 
-// The state of a table at instant 0.
-fn fresh(table: Table) -> State
-    ensures is { λ r. ⌜ r ≡ freshState table ⌝ }
-{
-    let present = Instant(0);
-    let jobs = Jobs {
-        awake: [false; 128],
-        arrived: [false; 128],
-        last: [0; 128],
-    };
-    let running = queue::cleared();
-    let waiting = queue::cleared();
-    let slots = [0; 16];
-    State {
-        table: table,
-        now: present,
-        going: false,
-        end: 0,
-        jobs: jobs,
-        running: running,
-        waiting: waiting,
-        slots: slots,
-    }
-}
-
-// Table bytes and m give a state at instant 0, no task awake, no plane open; a refusal gives the blank state.
-pub fn admit(bytes: &[u8], m: usize) -> Admitted
-    ensures is { λ r. ⌜ r ≡ admitOf (now (bytes .entry)) m ⌝ }
-{
-    let t = table::admit_table(bytes, m);
-    let answer = t.answer;
-    let table = t.table;
-    let state = fresh(table);
-    Admitted {
-        answer: answer,
-        row: t.row,
-        state: state,
-    }
-}
-
-// Does a tick lie before the last arrival plus p?
-fn too_soon(tick: u64, last: u64, period: u32) -> bool
-    requires dated { ⌜ last ≤ clock ⌝ }
-    ensures is { λ r. ⌜ r ≡ ltb tick (last + period) ⌝ }
-{
-    tick < last + table::wide(period)
-}
-
-// The answer to an arrival on a state that holds together: 7, 8, 9 or 0.
-fn comes(
-    terms: Terms,
-    present: Instant,
-    period: &[u32; 128],
-    arrived: &[bool; 128],
-    last: &[u64; 128],
-    task: u64,
-) -> Answer
-    requires dated { ⌜ Dated (terms .count) (terms .scale) (now arrived) (now last) ⌝ }
-    ensures is { λ r. ⌜ r ≡ comesBy (terms .count) (terms .scale) (present .0) (now (period .entry)) (now (arrived .entry)) (now (last .entry)) task ⌝ }
-{
-    if task < 1 {
-        return Answer::TaskNumber;
-    }
-    let count = terms.count as u64;
-    if count < task {
-        return Answer::TaskNumber;
-    }
-    if present.0 % terms.scale != 0 {
-        return Answer::BetweenTicks;
-    }
-    let i = (task - 1) as usize;
-    if arrived[i] {
-        if too_soon(present.0 / terms.scale, last[i], period[i]) {
-            return Answer::TooSoon;
-        }
-    }
-    Answer::Done
-}
-
-// THE REFUSALS, decided on lent parts: a call takes the state apart once, and puts it together once.
-
-// Does the state of these parts hold together? Then it is whole.
-fn check(
-    terms: Terms,
-    moment: Moment,
-    period: &[u32; 128],
-    exec: &[u32; 128],
-    deadline: &[u32; 128],
-    share: &[u64; 128],
-    order: &[u16; 128],
-    awake: &[bool; 128],
-    arrived: &[bool; 128],
-    last: &[u64; 128],
-    rk: &[u64; 128],
-    rt: &[u16; 128],
-    wk: &[u64; 128],
-    wt: &[u16; 128],
-    slots: &[u16; 16],
-) -> bool
-    requires sized { ⌜ Sized (here terms moment period exec deadline share order awake arrived last rk rt wk wt slots) ⌝ }
-    ensures is { λ r. ⌜ Checked (old terms moment period exec deadline share order awake arrived last rk rt wk wt slots) r ⌝ }
-{
-    let present = moment.now;
-    let n = moment.lengths;
-    together::holds_lent(
-        period,
-        exec,
-        deadline,
-        share,
-        order,
-        terms.count,
-        terms.m,
-        terms.scale,
-        present,
-        moment.going,
-        moment.end_tick,
-        awake,
-        arrived,
-        last,
-        rk,
-        rt,
-        n.running,
-        wk,
-        wt,
-        n.waiting,
-        slots,
-    )
-}
-
-// The number that arrive answers with; 0 means that the task may come.
-fn may_arrive(
-    terms: Terms,
-    moment: Moment,
-    task: u64,
-    period: &[u32; 128],
-    exec: &[u32; 128],
-    deadline: &[u32; 128],
-    share: &[u64; 128],
-    order: &[u16; 128],
-    awake: &[bool; 128],
-    arrived: &[bool; 128],
-    last: &[u64; 128],
-    rk: &[u64; 128],
-    rt: &[u16; 128],
-    wk: &[u64; 128],
-    wt: &[u16; 128],
-    slots: &[u16; 16],
-) -> Answer
-    requires sized { ⌜ Sized (here terms moment period exec deadline share order awake arrived last rk rt wk wt slots) ⌝ }
-    ensures is { λ r. ⌜ MayArrive (old terms moment period exec deadline share order awake arrived last rk rt wk wt slots) task r ⌝ }
-{
-    if !check(
-        terms,
-        moment,
-        period,
-        exec,
-        deadline,
-        share,
-        order,
-        awake,
-        arrived,
-        last,
-        rk,
-        rt,
-        wk,
-        wt,
-        slots,
-    ) {
-        return Answer::NotTogether;
-    }
-    let present = moment.now;
-    comes(terms, present, period, arrived, last, task)
-}
-
-// The number that step and run answer with; 0 means that the step can be taken.
-fn may_step(
-    terms: Terms,
-    moment: Moment,
-    horizon: u64,
-    len: usize,
-    period: &[u32; 128],
-    exec: &[u32; 128],
-    deadline: &[u32; 128],
-    share: &[u64; 128],
-    order: &[u16; 128],
-    awake: &[bool; 128],
-    arrived: &[bool; 128],
-    last: &[u64; 128],
-    rk: &[u64; 128],
-    rt: &[u16; 128],
-    wk: &[u64; 128],
-    wt: &[u16; 128],
-    slots: &[u16; 16],
-) -> Answer
-    requires sized { ⌜ Sized (here terms moment period exec deadline share order awake arrived last rk rt wk wt slots) ⌝ }
-    ensures is { λ r. ⌜ MayStep (old terms moment period exec deadline share order awake arrived last rk rt wk wt slots) horizon len r ⌝ }
-{
-    if !check(
-        terms,
-        moment,
-        period,
-        exec,
-        deadline,
-        share,
-        order,
-        awake,
-        arrived,
-        last,
-        rk,
-        rt,
-        wk,
-        wt,
-        slots,
-    ) {
-        return Answer::NotTogether;
-    }
-    if len < rules::RECORD_SIZE {
-        return Answer::RoomTooShort;
-    }
-    if rules::CLOCK < horizon {
-        return Answer::HorizonPastClock;
-    }
-    let present = moment.now;
-    if horizon * terms.scale <= present.0 {
-        return Answer::HorizonNotLater;
-    }
-    Answer::Done
-}
-
-// THE CALLS
+// Arrive, step and run: each takes the state apart, works on its parts in place, and puts it together again.
 
 // A task arrives at the present instant.
 pub fn arrive(s: State, task: u64) -> Arrived
@@ -317,7 +75,7 @@ pub fn arrive(s: State, task: u64) -> Arrived
         end_tick: s.end,
         lengths: lengths,
     };
-    let answer = may_arrive(
+    let r = inplace::arrive(
         terms,
         moment,
         task,
@@ -326,34 +84,19 @@ pub fn arrive(s: State, task: u64) -> Arrived
         &deadline,
         &share,
         &order,
-        &awake,
-        &arrived,
-        &last,
-        &rk,
-        &rt,
-        &wk,
-        &wt,
-        &slots,
+        &mut awake,
+        &mut arrived,
+        &mut last,
+        &mut rk,
+        &mut rt,
+        &mut wk,
+        &mut wt,
+        &mut slots,
     );
-    let mut r = moment;
-    if table::is_done(answer) {
-        r = moves::arrive_in(
-            terms,
-            moment,
-            (task - 1) as usize,
-            &share,
-            &mut awake,
-            &mut arrived,
-            &mut last,
-            &mut rk,
-            &mut rt,
-            &mut wk,
-            &mut wt,
-            &mut slots,
-        );
-    }
-    let at = r.now;
-    let n = r.lengths;
+    let answer = r.answer;
+    let then = r.moment;
+    let at = then.now;
+    let n = then.lengths;
     let run = Queue {
         keys: rk,
         tasks: rt,
@@ -372,8 +115,8 @@ pub fn arrive(s: State, task: u64) -> Arrived
     let state = State {
         table: table,
         now: at,
-        going: r.going,
-        end: r.end_tick,
+        going: then.going,
+        end: then.end_tick,
         jobs: held,
         running: run,
         waiting: wait,
@@ -422,47 +165,29 @@ pub fn step(s: State, horizon: u64, room: &mut [u8]) -> Stepped
         end_tick: s.end,
         lengths: lengths,
     };
-    let answer = may_step(
+    let r = inplace::step(
         terms,
         moment,
         horizon,
-        room.len(),
         &period,
         &exec,
         &deadline,
         &share,
         &order,
-        &awake,
+        &mut awake,
         &arrived,
         &last,
-        &rk,
-        &rt,
-        &wk,
-        &wt,
-        &slots,
+        &mut rk,
+        &mut rt,
+        &mut wk,
+        &mut wt,
+        &mut slots,
+        room,
     );
-    let mut r = moment;
-    if table::is_done(answer) {
-        r = moves::step_in(
-            terms,
-            moment,
-            horizon,
-            &period,
-            &deadline,
-            &share,
-            &order,
-            &mut awake,
-            &last,
-            &mut rk,
-            &mut rt,
-            &mut wk,
-            &mut wt,
-            &mut slots,
-            room,
-        );
-    }
-    let at = r.now;
-    let n = r.lengths;
+    let answer = r.answer;
+    let then = r.moment;
+    let at = then.now;
+    let n = then.lengths;
     let run = Queue {
         keys: rk,
         tasks: rt,
@@ -481,8 +206,8 @@ pub fn step(s: State, horizon: u64, room: &mut [u8]) -> Stepped
     let state = State {
         table: table,
         now: at,
-        going: r.going,
-        end: r.end_tick,
+        going: then.going,
+        end: then.end_tick,
         jobs: held,
         running: run,
         waiting: wait,
@@ -492,16 +217,6 @@ pub fn step(s: State, horizon: u64, room: &mut [u8]) -> Stepped
         state: state,
         answer: answer,
     }
-}
-
-// Is there another step: room for a record, and a horizon ahead?
-fn goes_on(left: usize, present: Instant, stop: Instant) -> bool
-    ensures is { λ r. ⌜ r ≡ goesOn left (present .0) (stop .0) ⌝ }
-{
-    if 0 < left {
-        return present.0 < stop.0;
-    }
-    false
 }
 
 // Step after step till the horizon, or till less than 48 bytes of the room are left.
@@ -542,61 +257,30 @@ pub fn run(s: State, horizon: u64, room: &mut [u8]) -> Ran
         end_tick: s.end,
         lengths: lengths,
     };
-    let answer = may_step(
+    let r = inplace::run(
         terms,
         moment,
         horizon,
-        room.len(),
         &period,
         &exec,
         &deadline,
         &share,
         &order,
-        &awake,
+        &mut awake,
         &arrived,
         &last,
-        &rk,
-        &rt,
-        &wk,
-        &wt,
-        &slots,
+        &mut rk,
+        &mut rt,
+        &mut wk,
+        &mut wt,
+        &mut slots,
+        room,
     );
-    if !table::is_done(answer) {
-        return Ran {
-            state: s,
-            answer: answer,
-            records: 0,
-        };
-    }
-    let until = horizon * table.scale;
-    let stop = Instant(until);
-    let mut r = moment;
-    let mut left = room.len() / rules::RECORD_SIZE;
-    let mut records: usize = 0;
-    while goes_on(left, r.now, stop) {
-        let start = records * rules::RECORD_SIZE;
-        r = moves::step_in(
-            terms,
-            r,
-            horizon,
-            &period,
-            &deadline,
-            &share,
-            &order,
-            &mut awake,
-            &last,
-            &mut rk,
-            &mut rt,
-            &mut wk,
-            &mut wt,
-            &mut slots,
-            &mut room[start..],
-        );
-        left -= 1;
-        records += 1;
-    }
-    let at = r.now;
-    let n = r.lengths;
+    let records = r.records;
+    let answer = r.answer;
+    let then = r.moment;
+    let at = then.now;
+    let n = then.lengths;
     let run = Queue {
         keys: rk,
         tasks: rt,
@@ -615,8 +299,8 @@ pub fn run(s: State, horizon: u64, room: &mut [u8]) -> Ran
     let state = State {
         table: table,
         now: at,
-        going: r.going,
-        end: r.end_tick,
+        going: then.going,
+        end: then.end_tick,
         jobs: held,
         running: run,
         waiting: wait,

@@ -20,7 +20,7 @@ use Rattle.rules.specs.Admission.{admitVerdict, admit}
 use Rattle.rules.specs.Answers.{numberOf, isDone}
 use Rattle.rules.specs.Reasons.{AdmitReason, StepReason}
 use Rattle.rules.specs.Record.{Record, recordBytes}
-use Rattle.rules.specs.Computed.{computed}
+use Rattle.rules.proofs.Computed.{computed}
 use Rattle.rules.specs.Listings.{tableP1, towards, line, listing}
 use Rattle.rules.proofs.Figures.{figures}
 use Rattle.rules.specs.Table.{rowsOf, tableBytes}
@@ -39,16 +39,22 @@ use Rattle.together.proofs.Holding.{holding-says}
 use Rattle.moves.specs.Fresh.{freshState}
 use Rattle.moves.specs.Whole.{Whole}
 use Rattle.moves.proofs.Fresh.{fresh-view, fresh-sound, fresh-whole}
-use Rattle.moves.proofs.Keeping.{sized-by}
-use Rattle.calls.specs.Admit.{blankState, admitOf}
-use Rattle.calls.specs.Arrive.{taskIn, wholeTick, soonAgain, arriveAnswerOf, arriveOf}
+use Rattle.moves.proofs.Keeping.{sized-by, together-of}
+use Rattle.admission.specs.Admit.{blankState, admitOf}
+use Rattle.refusals.specs.Arrive.{taskIn, wholeTick, soonAgain, arriveAnswerOf}
+use Rattle.calls.specs.Arrive.{arriveOf}
 use Rattle.demands.specs.Demands.{OneOf, callingAll, starting, seen}
-use Rattle.calls.specs.Run.{went, runOf, runRoom}
-use Rattle.calls.specs.Step.{movesAnswer, stepAnswerOf, stepOf, stepRoom}
-use Rattle.calls.proofs.Refining.{arrive-kept, arrive-same, holds-whole, step-kept, step-same, whole-holds}
+use Rattle.inplace.specs.Run.{went, runRoom}
+use Rattle.calls.specs.Run.{runOf}
+use Rattle.refusals.specs.Step.{movesBy, stepAnswerOf}
+use Rattle.calls.specs.Step.{stepOf}
+use Rattle.inplace.specs.Step.{stepRoom}
+use Rattle.calls.proofs.Refining.{arrive-kept, step-kept}
+use Rattle.refusals.proofs.Agreeing.{arrive-same, step-same}
+use Rattle.refusals.proofs.Checking.{holds-whole, whole-holds}
 use Rattle.demands.proofs.Runs.{run-steps}
 use Rattle.demands.proofs.Serving.{Followed, plain, all-together, calls-followed, seen-good, seen-within, seen-next, taken-in}
-use Rattle.calls.proofs.RunSteps.{went-whole}
+use Rattle.inplace.proofs.RunSteps.{went-whole}
 use Rattle.rules.specs.Bounds.{clock}
 
 -- EACH CALL IS THE RULES' CALL
@@ -215,7 +221,7 @@ arrive-listed s task = go (holdsOf s) (taskIn (s .table .count) task) (wholeTick
     go true true true false = inl refl
 
 step-listed : (s : State) (h n : ℕ) → OneOf (numberOf (stepAnswerOf s h n)) (0 ∷ 10 ∷ 11 ∷ 12 ∷ 13 ∷ [])
-unfolding stepAnswerOf movesAnswer
+unfolding stepAnswerOf movesBy
 step-listed s h n = go (holdsOf s) (ltb n 48) (ltb clock h) (leb (h * s .table .scale) (s .now .0))
   where
     go : (a b c d : Bool) → OneOf (numberOf (if a then (if b then RoomTooShort else (if c then HorizonPastClock else (if d then HorizonNotLater else Done))) else NotTogether)) (0 ∷ 10 ∷ 11 ∷ 12 ∷ 13 ∷ [])
@@ -251,7 +257,7 @@ blank-refused = go (holdsOf blankState) refl
   where
     go : (b : Bool) → holdsOf blankState ≡ b → holdsOf blankState ≡ false
     go false e = e
-    go true e = let W = holds-whole blankState blank-sized e in absurd (omega (arith, W .together .table .processors .0))
+    go true e = let W = holds-whole blankState blank-sized e in absurd (omega (arith, together-of W .table .processors .0))
       where
         blank-sized : Sized blankState
         blank-sized = let S = fresh-sound blankTable (omega arith) (omega arith) in sized-by blankState S (length-replicate {A = ℕ} 128 0) (length-replicate {A = Bool} 128 false) (length-replicate {A = Bool} 128 false) (length-replicate {A = ℕ} 128 0)

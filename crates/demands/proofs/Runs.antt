@@ -20,13 +20,16 @@ use Rattle.rules.proofs.Jobs.{by-answer}
 use Rattle.rules.proofs.Refusing.{step-exact, step-answers}
 use Rattle.state.specs.Machine.{movedOf}
 use Rattle.state.specs.View.{view}
-use Rattle.calls.specs.Run.{Went, went, steps, goesOn, runOf, runRoom}
+use Rattle.inplace.specs.Run.{Went, went, goesOn, runRoom}
+use Rattle.calls.specs.Run.{steps, runOf}
 use Rattle.demands.specs.Demands.{Calls, calling, callingAll, runCall, readRecords, oneStep}
-use Rattle.calls.specs.Step.{stepAnswerOf, stepOf, stepRoom}
+use Rattle.refusals.specs.Step.{stepAnswerOf}
+use Rattle.calls.specs.Step.{stepOf}
+use Rattle.inplace.specs.Step.{stepRoom}
 use Rattle.moves.specs.Whole.{Whole}
 use Rattle.moves.proofs.Keeping.{step-whole}
-use Rattle.calls.proofs.Refining.{step-same}
-use Rattle.calls.proofs.RunSteps.{goes-none, goes-more, went-more, went-none, by-going, record-48}
+use Rattle.refusals.proofs.Agreeing.{step-same}
+use Rattle.inplace.proofs.RunSteps.{goes-none, goes-more, went-more, went-none, by-going, record-48}
 use Rattle.rules.specs.Bounds.{clock}
 
 -- with a horizon that lies ahead, step does not refuse; with one that does not, it refuses by 11

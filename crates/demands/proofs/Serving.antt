@@ -25,10 +25,12 @@ use Rattle.state.specs.Machine.{tickAt}
 use Rattle.state.specs.View.{view}
 use Rattle.demands.specs.Demands.{Call, arriveCall, stepCall, runCall, Calls, calling, callingAll, seen, NextOf, oneStep}
 use Rattle.calls.specs.Arrive.{arriveOf}
-use Rattle.calls.specs.Step.{stepOf, stepRoom}
+use Rattle.calls.specs.Step.{stepOf}
+use Rattle.inplace.specs.Step.{stepRoom}
 use Rattle.calls.specs.Run.{runOf}
 use Rattle.moves.specs.Whole.{Whole}
-use Rattle.calls.proofs.Refining.{arrive-same, step-same, arrive-kept, step-kept}
+use Rattle.refusals.proofs.Agreeing.{arrive-same, step-same}
+use Rattle.calls.proofs.Refining.{arrive-kept, step-kept}
 use Rattle.demands.proofs.Runs.{run-called}
 
 -- THE TWO RUNS GO TOGETHER

@@ -22,13 +22,15 @@ use Rattle.state.specs.View.{tasksAt, view, Sized}
 use Rattle.together.specs.Holds.{Holding, holdsOf}
 use Rattle.calls.specs.declared.Arrived.{Arrived}
 use Rattle.calls.specs.declared.Stepped.{Stepped}
-use Rattle.calls.specs.declared.Admitted.{Admitted}
+use Rattle.admission.specs.declared.Admitted.{Admitted}
 use Rattle.calls.specs.declared.Ran.{Ran}
-use Rattle.calls.specs.Admit.{blankState, admitOf}
+use Rattle.admission.specs.Admit.{blankState, admitOf}
 use Rattle.calls.specs.Arrive.{arriveOf}
-use Rattle.calls.specs.Step.{stepOf, stepRoom}
+use Rattle.calls.specs.Step.{stepOf}
+use Rattle.inplace.specs.Step.{stepRoom}
 use Rattle.calls.specs.Run as Runs
-use Rattle.calls.specs.Run.{runOf, runRoom}
+use Rattle.calls.specs.Run.{runOf}
+use Rattle.inplace.specs.Run.{runRoom}
 
 -- DEMAND 1: each call answers 0 or one of its numbers, and what a refusal hands back and leaves in the room
 abbrev pub OneOf : ℕ → List ℕ → Type 0

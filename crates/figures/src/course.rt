@@ -343,8 +343,8 @@ fn judge_all(s: State, book: &mut [u64; 512]) {
         judge(
             book,
             i,
-            table::wide(exec[i]),
-            table::wide(q),
+            ground::wide_word(exec[i]),
+            ground::wide_word(q),
             held.scale,
             s.going,
         );

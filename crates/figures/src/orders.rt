@@ -7,20 +7,24 @@
 //    6 arrive T: NAME      an arrival of task T
 //    7 step H R: NAME      a step to tick H with R bytes of room; without a name its record is written
 //    8 run H               all steps to tick H
-//    9 set AT WIDTH VALUE  a number into the image of the state
+//    9 set COLUMN I VALUE  a number into place I of a column of the state, or into one of its numbers
 //   10 keep                keep the state
 //   11 back                take the state that was kept
 //   12 ask: NAME           what an arrival of task 1 and a step to tick 3 answer; then back
-// The calls are those under C names, on the image of the state (its layout is in include/robinrow.h).
 ghost use mathlib.Core.Path.{_≡_};
 ghost use Prim.Native.Nat.{_+_, _≤_};
 ghost use lib.ListN.{length};
 ghost use Rattle.ground.specs.Bytes.{le, pasted};
 use crate::course;
+use crate::damage;
 use crate::numbers::at_most;
 use crate::numbers::plus;
 use crate::say;
+use admission::Admitted;
+use calls::Stepped;
 use course::Plan;
+use rules::Answer;
+use state::State;
 
 // BYTES
 
@@ -49,13 +53,6 @@ fn set(bytes: &mut [u8], at: usize, width: usize, x: u64)
         return;
     }
     ground::put(bytes, at, x, width);
-}
-
-// All bytes into others, where they have room.
-fn copy(from: &[u8], to: &mut [u8]) {
-    if from.len() <= to.len() {
-        bytes::copy(from, to);
-    }
 }
 
 // How many of the bytes from a place up to another are no longer 255.
@@ -96,67 +93,78 @@ fn row(table: &mut [u8], at: usize, p: u64, e: u64, d: u64) -> usize {
 
 // ANSWERS
 
-// What an arrival of task 1 and a step to tick 3 answer; the step is taken.
-fn asked(state: &mut [u8]) -> [u64; 2] {
-    let mut other = [0u8; 6745];
-    copy(state, &mut other);
-    let arrived = robinrow_c::robinrow_arrive(&mut other, 1);
+fn number_of(answer: Answer) -> u64 {
+    rules::number(answer) as u64
+}
+
+// What an arrival of task 1 and a step to tick 3 answer.
+fn asked(s: State) -> [u64; 2] {
+    let a = calls::arrive(s, 1);
+    let arrived = a.answer;
     let mut room = [0u8; 48];
-    let stepped = robinrow_c::robinrow_step(state, 3, &mut room);
-    [arrived as u64, stepped as u64]
+    let r = calls::step(s, 3, &mut room);
+    let stepped = r.answer;
+    [number_of(arrived), number_of(stepped)]
 }
 
-fn ask(state: &mut [u8], kept: &[u8], name: &[u8]) {
-    let n = asked(state);
+fn ask(s: State, name: &[u8]) {
+    let n = asked(s);
     say::form(b"@: arrive # step #\n", name, &n);
-    copy(kept, state);
 }
 
-// Admission of the table's first bytes: number, and 256 times the row.
-fn admitted(state: &mut [u8], table: &[u8], len: usize, m: usize) -> u64 {
+// Admission of the table's first bytes.
+fn admitted(table: &[u8], len: usize, m: usize) -> Admitted {
     let from: usize = 0;
     if len <= table.len() {
-        return robinrow_c::robinrow_admit(&table[from..len], m, state);
+        return admission::admit(&table[from..len], m);
     }
-    robinrow_c::robinrow_admit(table, m, state)
+    admission::admit(table, m)
 }
 
 // The line of an admission: number and row, then the scale or what the blank state answers.
-fn admit_line(state: &mut [u8], m: usize, r: u64, name: &[u8]) {
-    if r == 0 {
-        let n = [m as u64, number(state, 6448, 8)];
+fn admit_line(s: State, m: usize, answer: u64, row: usize, name: &[u8]) {
+    if answer == 0 {
+        let held = s.table;
+        let n = [m as u64, held.scale];
         say::form(b"admit @, m #: 0 row 0 scale #\n", name, &n);
         return;
     }
-    let blank = asked(state);
-    let n = [m as u64, r % 256, r / 256, blank[0], blank[1]];
+    let blank = asked(s);
+    let n = [m as u64, answer, row as u64, blank[0], blank[1]];
     say::form(b"admit @, m #: # row #, then arrive # step #\n", name, &n);
 }
 
-fn admit(state: &mut [u8], table: &[u8], len: usize, m: usize, name: &[u8]) {
-    let r = admitted(state, table, len, m);
+fn admit(table: &[u8], len: usize, m: usize, name: &[u8]) -> State {
+    let r = admitted(table, len, m);
+    let answer = r.answer;
+    let state = r.state;
     if 0 < name.len() {
-        admit_line(state, m, r, name);
+        admit_line(state, m, number_of(answer), r.row, name);
     }
+    state
 }
 
-fn arrive(state: &mut [u8], task: u64, name: &[u8]) {
-    let r = robinrow_c::robinrow_arrive(state, task);
-    let n = [task, r as u64, number(state, 6456, 8)];
+fn arrive(s: State, task: u64, name: &[u8]) -> State {
+    let r = calls::arrive(s, task);
+    let answer = r.answer;
+    let state = r.state;
+    let present = state.now;
+    let n = [task, number_of(answer), present.0];
     if name.len() == 0 {
         say::form(b"arrive #: #\n", name, &n);
-        return;
+        return state;
     }
     say::form(b"@: arrive #: #, present #\n", name, &n);
+    state
 }
 
 // A step into the first bytes of a room.
-fn stepped(state: &mut [u8], horizon: u64, room: &mut [u8], len: usize) -> u32 {
+fn stepped(s: State, horizon: u64, room: &mut [u8], len: usize) -> Stepped {
     let from: usize = 0;
     if len <= room.len() {
-        return robinrow_c::robinrow_step(state, horizon, &mut room[from..len]);
+        return calls::step(s, horizon, &mut room[from..len]);
     }
-    robinrow_c::robinrow_step(state, horizon, room)
+    calls::step(s, horizon, room)
 }
 
 // The line of a step without a name: its answer, and its record.
@@ -164,7 +172,7 @@ fn record_line(horizon: u64, r: u64, room: &[u8; 60], m: usize) {
     let n = [horizon, r];
     if r == 0 {
         let mut out = [0u8; 138];
-        let k = text::put_records(&mut out, room, 1, at_most(m, 16));
+        let k = print::put_records(&mut out, room, 1, at_most(m, 16));
         say::form(b"step #: #, @", &out[..k], &n);
         return;
     }
@@ -172,61 +180,62 @@ fn record_line(horizon: u64, r: u64, room: &[u8; 60], m: usize) {
 }
 
 // A step into so many of 60 bytes 255; with a name, how many of the first 48 bytes and of the others it changed.
-fn step(state: &mut [u8], horizon: u64, len: u64, name: &[u8]) {
+fn step(s: State, horizon: u64, len: u64, name: &[u8]) -> State {
     let mut room = [255u8; 60];
-    let r = stepped(state, horizon, &mut room, len as usize) as u64;
+    let r = stepped(s, horizon, &mut room, len as usize);
+    let answer = r.answer;
+    let state = r.state;
+    let number = number_of(answer);
     if name.len() == 0 {
-        record_line(horizon, r, &room, number(state, 6440, 8) as usize);
-        return;
+        let held = state.table;
+        record_line(horizon, number, &room, held.m);
+        return state;
     }
+    let present = state.now;
     let n = [
         horizon,
         len,
-        r,
+        number,
         changed(&room, 0, 48),
         changed(&room, 48, 60),
-        number(state, 6456, 8),
+        present.0,
     ];
     say::form(
         b"@: step # room #: #, changed # and #, present #\n",
         name,
         &n,
     );
+    state
 }
 
 // A run of at most 5,461 records.
-fn run(state: &mut [u8], tick: u64) {
+fn run(s: State, tick: u64) -> State {
     let mut room = [0u8; 262144];
-    let r = robinrow_c::robinrow_run(state, tick, &mut room);
-    let n = [
-        tick,
-        r / 256,
-        number(state, 6456, 8),
-        number(state, 6464, 8),
-    ];
-    if number(state, 6744, 1) == 1 {
+    let r = calls::run(s, tick, &mut room);
+    let state = r.state;
+    let present = state.now;
+    let n = [tick, r.records as u64, present.0, state.end];
+    if state.going {
         say::form(
             b"run to #: records #, present #, plane open to #\n",
             b"",
             &n,
         );
-        return;
+        return state;
     }
     say::form(b"run to #: records #, present #, plane closed\n", b"", &n);
+    state
 }
 
 // A course from the state.
-fn course_from(state: &[u8], n: [u64; 6], name: &[u8]) {
-    if state.len() != 6745 {
-        return;
-    }
+fn course_from(s: State, n: [u64; 6], name: &[u8]) {
     let p = Plan {
         chance: n[2],
         stride: n[3],
         stops: n[4],
         stepwise: n[5] == 1,
     };
-    let book = course::course(image::load(state), p);
+    let book = course::course(s, p);
     say::form(
         b"course @: records # sum #, arrivals #, refused 9 #, refused else #, jobs compared #, differ #, gaps #, twice #\n",
         name,
@@ -329,35 +338,30 @@ fn obey_table(order: u64, n: [u64; 6], table: &mut [u8], len: usize) -> usize {
 }
 
 // Orders that make a state of the table.
-fn obey_both(order: u64, n: [u64; 6], name: &[u8], state: &mut [u8], table: &[u8], len: usize) {
+fn obey_both(order: u64, n: [u64; 6], name: &[u8], s: State, table: &[u8], len: usize) -> State {
     if order == 4 {
-        admit(state, table, len, n[1] as usize, name);
-        return;
+        return admit(table, len, n[1] as usize, name);
     }
     if order == 5 {
-        admitted(state, table, len, n[1] as usize);
-        course_from(state, n, name);
+        let r = admitted(table, len, n[1] as usize);
+        course_from(r.state, n, name);
     }
+    s
 }
 
-// Orders on the state.
-fn obey_state(order: u64, n: [u64; 6], name: &[u8], state: &mut [u8]) {
+// Orders on the state; kept is the state that was kept.
+fn obey_state(order: u64, n: [u64; 6], column: &[u8], name: &[u8], s: State, kept: State) -> State {
     match order {
-        6 => arrive(state, n[1], name),
-        7 => step(state, n[1], n[2], name),
-        8 => run(state, n[1]),
-        9 => set(state, n[1] as usize, n[2] as usize, n[3]),
-        _ => {}
-    }
-}
-
-// Orders on the state and the state that was kept.
-fn obey_kept(order: u64, name: &[u8], state: &mut [u8], kept: &mut [u8]) {
-    match order {
-        10 => copy(state, kept),
-        11 => copy(kept, state),
-        12 => ask(state, kept, name),
-        _ => {}
+        6 => arrive(s, n[1], name),
+        7 => step(s, n[1], n[2], name),
+        8 => run(s, n[1]),
+        9 => damage::set(s, column, n[2] as usize, n[3]),
+        11 => kept,
+        12 => {
+            ask(s, name);
+            kept
+        }
+        _ => s,
     }
 }
 
@@ -372,35 +376,67 @@ fn name_at(colon: usize, end: usize) -> usize
     colon + 2
 }
 
-// A line: its word ends at the first space, its numbers at the colon; how many bytes the table has then.
-fn line(s: &[u8], state: &mut [u8], kept: &mut [u8], table: &mut [u8], len: usize) -> usize {
+// Where the word after a space begins.
+fn word_at(space: usize, end: usize) -> usize
+    requires inside { ⌜ space ≤ end ⌝ }
+    ensures within { λ r. ⌜ r ≤ end ⌝ }
+{
+    if space < end {
+        return space + 1;
+    }
+    end
+}
+
+// What the orders so far left: the state, the one that was kept, the length of the table.
+struct Held {
+    state: State,
+    kept: State,
+    len: usize,
+}
+
+// A line: its word ends at the first space, its numbers at the colon.
+fn line(s: &[u8], held: Held, table: &mut [u8]) -> Held {
     let start: usize = 0;
     let end = s.len();
     let colon = bytes::scan::find(s, start, end, 58);
     let space = bytes::scan::find(s, start, colon, 32);
+    let second = word_at(space, colon);
+    let next = bytes::scan::find(s, second, colon, 32);
     let from = name_at(colon, end);
     let word = &s[start..space];
+    let column = &s[second..next];
     let name = &s[from..];
     let n = numbers_of(&s[start..colon]);
     let order = order_of(word);
-    obey_kept(order, name, state, kept);
-    obey_state(order, n, name, state);
-    obey_both(order, n, name, state, table, len);
-    obey_table(order, n, table, len)
+    let first = held.state;
+    let before = held.kept;
+    let then = obey_state(order, n, column, name, first, before);
+    let state = obey_both(order, n, name, then, table, held.len);
+    let kept = if order == 10 { state } else { before };
+    let len = obey_table(order, n, table, held.len);
+    Held {
+        state: state,
+        kept: kept,
+        len: len,
+    }
 }
 
 // All lines.
 pub(crate) fn all(s: &[u8])
     requires short { ⌜ length (now s) ≤ 65536 ⌝ }
 {
-    let mut state = [0u8; 6745];
-    let mut kept = [0u8; 6745];
     let mut table = [0u8; 1548];
-    let mut len: usize = 0;
+    let blank = admission::admit(b"", 0);
+    let state = blank.state;
+    let mut held = Held {
+        state: state,
+        kept: state,
+        len: 0,
+    };
     let mut at: usize = 0;
     while at < s.len() {
         let end = bytes::scan::find(s, at, s.len(), 10);
-        len = line(&s[at..end], &mut state, &mut kept, &mut table, len);
+        held = line(&s[at..end], held, &mut table);
         at = end + 1;
     }
 }

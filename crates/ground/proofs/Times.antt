@@ -4,11 +4,10 @@ use mathlib.Core.Bool.{Bool, true, false}
 use mathlib.Core.Logic.{_≢_}
 use mathlib.Core.List.{List, [], _∷_}
 use Prim.Native.Nat.{ℕ, zero, suc, _+_, _-_, _≤_, _<_}
-use native.Mathlib.Nat.{sub-zero}
 use native.Mathlib.Omega.{arith}
-use lib.Dec.{eqb, ltb}
+use lib.Dec.{eqb}
 use lib.ListN.{length, getD}
-use Rattle.ground.specs.Tests.{if_then_else_, Says}
+use Rattle.ground.specs.Tests.{Says}
 use Rattle.ground.specs.Sums.{sumOf, upFrom, same, times}
 use Rattle.ground.proofs.Tests.{eqb-says, if-by}
 

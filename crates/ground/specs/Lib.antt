@@ -1,3 +1,4 @@
 pub mod Tests
 pub mod Sums
 pub mod Bytes
+pub mod Lent

@@ -34,6 +34,53 @@ pub fn between(from: Instant, to: Instant) -> Amount
     Amount(to.0 - from.0)
 }
 
+// An array taken as a slice: nothing is done, and the proofs learn its length.
+fn touch64(_numbers: &[u64]) {}
+
+// The same of numbers of 16 bits.
+fn touch16(_numbers: &[u16]) {}
+
+// The same of bytes.
+fn touch8(_bytes: &[u8]) {}
+
+// The same of flags.
+fn touch_flags(_flags: &[bool]) {}
+
+// A column of 64-bit numbers has its 128 places.
+pub fn measure64(numbers: &[u64; 128])
+    ensures is { λ _. ⌜ length (now (numbers .entry)) ≡ 128 ⌝ }
+{
+    touch64(numbers);
+}
+
+// The same of numbers of 16 bits.
+pub fn measure16(numbers: &[u16; 128])
+    ensures is { λ _. ⌜ length (now (numbers .entry)) ≡ 128 ⌝ }
+{
+    touch16(numbers);
+}
+
+// The same of bytes.
+pub fn measure8(bytes: &[u8; 128])
+    ensures is { λ _. ⌜ length (now (bytes .entry)) ≡ 128 ⌝ }
+{
+    touch8(bytes);
+}
+
+// The same of flags.
+pub fn measure_flags(flags: &[bool; 128])
+    ensures is { λ _. ⌜ length (now (flags .entry)) ≡ 128 ⌝ }
+{
+    touch_flags(flags);
+}
+
+// The slots have their 16 places.
+pub fn measure_slots(slots: &[u16; 16])
+    ensures is { λ _. ⌜ length (now (slots .entry)) ≡ 16 ⌝ }
+{
+    touch16(slots);
+}
+
 // A number's least bytes, as many as the width says, least byte first.
 pub fn put(bytes: &mut [u8], at: usize, x: u64, width: usize)
     requires fits { ⌜ at + width ≤ length (now bytes) ⌝ }
@@ -48,11 +95,23 @@ pub fn put(bytes: &mut [u8], at: usize, x: u64, width: usize)
     }
 }
 
-// A byte as a number of 64 bits.
-fn wide(b: u8) -> u64
-    ensures is { λ r. ⌜ (r ≡ b) × (r < 256) ⌝ }
+// A number of 8, 16 or 32 bits as one of 64.
+fn wide_byte(x: u8) -> u64
+    ensures is { λ r. ⌜ (r ≡ x) × (r < 256) ⌝ }
 {
-    b as u64
+    x as u64
+}
+
+pub fn wide_half(x: u16) -> u64
+    ensures is { λ r. ⌜ r ≡ x ⌝ }
+{
+    x as u64
+}
+
+pub fn wide_word(x: u32) -> u64
+    ensures is { λ r. ⌜ r ≡ x ⌝ }
+{
+    x as u64
 }
 
 // The number that the bytes at a place spell, least byte first.
@@ -64,7 +123,7 @@ pub fn get(bytes: &[u8], at: usize, width: usize) -> u64
     let mut r: u64 = 0;
     while 0 < i {
         i -= 1;
-        let b = wide(bytes[at + i]);
+        let b = wide_byte(bytes[at + i]);
         r = 256 * r + b;
     }
     r

@@ -1,9 +1,7 @@
 -- What an arrival asks, and what it does
-use mathlib.Core.Path.{_≡_, refl, sym, _∙_, ap, subst}
+use mathlib.Core.Path.{_≡_, sym, _∙_, ap}
 use mathlib.Core.Bool.{Bool, true, false}
-use mathlib.Core.Option.{Option, none, some}
-use mathlib.Core.List.{List}
-use Prim.Native.Nat.{ℕ, zero, suc, _+_, _*_, _-_, _/_, _≤_, _<_}
+use Prim.Native.Nat.{ℕ, _+_, _*_, _-_, _≤_, _<_}
 use native.Mathlib.Nat.{mul-le-mul-right, lt-of-mul-lt-mul-right}
 use native.Mathlib.Omega.{arith}
 use lib.Dec.{ltb}
@@ -16,6 +14,7 @@ use Rattle.rules.proofs.Calls.{comes-asleep}
 use Rattle.rules.specs.Reasons.{Comes}
 use Rattle.rules.proofs.Keeping.{Running, running-stands}
 use Rattle.rules.proofs.Standing.{facts}
+use Rattle.rules.proofs.Cases.{runsOf, waitsOf}
 use Rattle.queue.specs.Heap.{below}
 use Rattle.state.specs.Fit.{Joining}
 use Rattle.state.specs.Machine.{woken, endAt, tickAt, workOf, withWork, amountAt, joined, arrivedOf}
@@ -24,7 +23,7 @@ use Rattle.state.specs.Work.{Work, firstIdle, joins}
 use Rattle.state.proofs.Views.{sound-is}
 use Rattle.plane.proofs.Ready.{join-ready}
 use Rattle.moves.specs.Whole.{Whole}
-use Rattle.moves.proofs.Keeping.{tasks-count, shares-fit}
+use Rattle.moves.proofs.Keeping.{tasks-count, shares-fit, together-of}
 use Rattle.moves.proofs.Moving.{plane-runs, end-fits}
 
 module _ (s : State) (i : ℕ) (W : Whole s) (C : Comes (view s) i) where
@@ -32,7 +31,7 @@ module _ (s : State) (i : ℕ) (W : Whole s) (C : Comes (view s) i) where
   arrive-row = (omega (arith, C .known, tasks-count s), omega (arith, C .known, tasks-count s, W .sound .few))
 
   pub arrive-scale : 0 < s .table .scale
-  arrive-scale = facts (tasksAt s) (W .together .table) .scale-pos
+  arrive-scale = facts (tasksAt s) (together-of W .table) .scale-pos
 
   -- in an open plane
   module _ (on : s .going ≡ true) where
@@ -55,9 +54,9 @@ module _ (s : State) (i : ℕ) (W : Whole s) (C : Comes (view s) i) where
     pub arrive-joins : Joining (workOf s) (amountAt s i)
     arrive-joins =
         let later = P .going .later in
-        let sl = comes-asleep (view s) i (W .together) C in
-        join-ready (sound-is s (W .sound)) (running-stands (tasksAt s) P) (omega arith) (end-fits s W on .0) (W .together .table .processors .0) i (amountAt s i) (arrive-row .0)
-        (ap (λ (c : Rules.Cond). Rules.runsOf c + Rules.waitsOf c) sl) arrive-amount
+        let sl = comes-asleep (view s) i (together-of W) C in
+        join-ready (sound-is s (W .sound)) (running-stands (tasksAt s) P) (omega arith) (end-fits s W on .0) (together-of W .table .processors .0) i (amountAt s i) (arrive-row .0)
+        (ap (λ (c : Rules.Cond). runsOf c + waitsOf c) sl) arrive-amount
 
 -- with no plane open the task is simply awake
 pub arrived-off : (s : State) (i : ℕ) → s .going ≡ false → woken s i (tickAt s) ≡ arrivedOf s i

@@ -1,7 +1,7 @@
 -- An admitted table's state at instant 0 is whole, and shows the rules' first state
-use mathlib.Core.Path.{_≡_, refl, sym, _∙_, ap, subst}
+use mathlib.Core.Path.{_≡_, refl, sym, _∙_, ap}
 use mathlib.Core.Bool.{Bool, false}
-use mathlib.Core.Option.{none}
+use mathlib.Core.Option.{Option, none, some}
 use mathlib.Core.List.{List, [], _∷_, map}
 use Prim.Native.Nat.{ℕ, suc, _+_, _*_, _≤_, _<_}
 use native.Mathlib.Omega.{arith}
@@ -14,17 +14,18 @@ use Rattle.rules.specs.Planes.{falling, sharesOf}
 use Rattle.rules.specs.Scale.{scaleOf, shareOf}
 use Rattle.rules.specs.State.{noRow, nobody}
 use Rattle.rules.specs.Table.{Row}
-use Rattle.rules.specs.Together.{Together}
 use Rattle.rules.proofs.Starting.{Passes, at-fresh, admitted-together}
 use Rattle.rules.proofs.Falling.{falling-length}
+use Rattle.rules.proofs.Holding.{holds-as}
 use Rattle.queue.specs.Queues.{emptyQueue, keyIn}
 use Rattle.queue.proofs.Keys.{none-empty, empty-good}
 use Rattle.table.specs.Rows.{rowIn, padded}
 use Rattle.table.specs.Tabled.{sharesFrom, tableFrom}
 use Rattle.table.proofs.Admitted.{rows-in-table, share-in-table, order-in-table}
 use Rattle.table.proofs.Padding.{padded-take, padded-length}
+use Rattle.ground.specs.Tests.{if_then_else_}
 use Rattle.state.specs.Machine.{workOf, noSlots}
-use Rattle.state.specs.View.{Sound, condOf, condIn, taskAt, tasksAt, view}
+use Rattle.state.specs.View.{Sound, condOf, condIn, lastAt, taskAt, tasksAt, view}
 use Rattle.state.specs.Work.{seat}
 use Rattle.state.proofs.Closing.{empty-tidy}
 use Rattle.moves.specs.Fresh.{freshState}
@@ -42,9 +43,8 @@ fresh-task m rows i h =
     let k = none-empty emptyQueue refl (suc i) in
     let c : condOf 0 (0 * scaleOf rows) (keyIn emptyQueue (suc i)) (keyIn emptyQueue (suc i)) (seat (suc i) noSlots) (getD (replicate 128 false) i false) ≡ Rules.asleep =
     rw (k, all-one false 128 i) in
-    let l = all-one {A = ℕ} 0 128 i in
-    let a = all-one false 128 i in
-    (λ x. record { row = r x; share = s x; cond = c x; arrived = a x; last = l x })
+    let a : lastAt (freshState t .jobs) i ≡ none = ap (λ (b : Bool). if_then_else_ {A = Option ℕ} b (some (getD (freshState t .jobs .last) i 0)) none) (all-one false 128 i) in
+    (λ x. record { row = r x; share = s x; cond = c x; last = a x })
 
 fresh-tasks : (m : ℕ) (rows : List Row) → tasksAt (freshState (tableFrom m rows)) ≡ map (Rules.fresh (scaleOf rows)) rows
 fresh-tasks m rows =
@@ -66,7 +66,7 @@ fresh-whole m rows P =
     record {
       sized = sized-by s S (order-room (falling (sharesFrom rows)) (falling-length (sharesFrom rows) ∙ length-map rows (shareOf (scaleOf rows))) (P .size .1)) (length-replicate {A = Bool} 128 false) (length-replicate {A = Bool} 128 false) (length-replicate {A = ℕ} 128 0);
       sound = S;
-      together = subst Together (sym (fresh-view m rows)) (admitted-together m rows P);
+      together = holds-as (fresh-view m rows) (admitted-together m rows P);
       order = order-in-table m rows ∙ ap falling (take-shares m rows);
     }
   where

@@ -3,10 +3,10 @@ use mathlib.Core.Path.{_≡_, refl, sym, _∙_, ap, subst}
 use mathlib.Core.Bool.{Bool, true, false, _&&_}
 use mathlib.Core.Option.{Option, none, some}
 use mathlib.Core.List.{List, [], _∷_, map, foldl}
-use Prim.Native.Nat.{ℕ, zero, suc, _+_, _*_, _-_, _/_, _≤_, _<_}
+use Prim.Native.Nat.{ℕ, _+_, _*_, _-_, _≤_, _<_}
 use native.Mathlib.Omega.{arith}
 use lib.Dec.{eqb}
-use lib.ListN.{length, getD, set, take, length-set, length-map, List·getD-map}
+use lib.ListN.{length, getD, set, take, length-set}
 use Rattle.table.specs.declared.Table.{Table}
 use Rattle.state.specs.declared.Jobs.{Jobs}
 use Rattle.state.specs.declared.State.{State}
@@ -15,9 +15,9 @@ use Rattle.ground.specs.Sums.{upFrom}
 use Rattle.ground.specs.Tests.{if_then_else_}
 use Rattle.ground.proofs.Ranges.{length-up, at-up}
 use Rattle.rules.specs.Calls.{arriving, moving}
-use Rattle.rules.specs.Planes.{endOf, falling, sharesOf, openAt, openCase, opened}
+use Rattle.rules.specs.Planes.{endOf, falling, sharesOf, opened}
 use Rattle.rules.specs.State.{Task, nobody, at}
-use Rattle.rules.specs.Together.{Together}
+use Rattle.rules.proofs.Together.{Together}
 use Rattle.rules.proofs.Calls.{open-parts, shut-parts, moving-keeps, comes-asleep, arriving-keeps}
 use Rattle.rules.specs.Reasons.{Comes}
 use Rattle.rules.proofs.Keeping.{Running, running-stands, opens-plane}
@@ -29,6 +29,8 @@ use Rattle.state.proofs.Arriving.{CanArrive, arrived-view}
 use Rattle.state.proofs.Step.{InPlane, CanStep, moved-view}
 use Rattle.moves.specs.Whole.{Whole}
 use Rattle.rules.specs.Bounds.{clock}
+use Rattle.rules.proofs.Cases.{openAt, openCase}
+use Rattle.rules.proofs.Holding.{together-is, holds-as}
 
 -- WHAT STAYS
 -- the tasks' count, shares and rows are the table's
@@ -116,10 +118,13 @@ sized-by k S o a b c = record {
 -- WHAT A STEP NEEDS
 -- an open plane, as plane's laws want it
 running-plane : (r : Rules.State) (e : ℕ) → Running (r .m) (r .scale) (r .now) e (r .tasks) → InPlane r e
-running-plane r e P = record { scale = facts (r .tasks) (P .table) .scale-pos; before = P .going .later; stands = running-stands (r .tasks) P }
+running-plane r e P = record { scale = facts (r .tasks) (P .table) .scale-pos; before = P .going .later; stands = running-stands (r .tasks) P; known = P .lasts .known }
+
+-- what it says that the state holds together
+pub together-of : {s : State} → Whole s → Together (view s)
+together-of {s} W = together-is (view s) (W .together)
 
 opened-plane : (r : Rules.State) → Together r → (p : Option ℕ) → r .plane ≡ p → (e : ℕ) → openCase r p .plane ≡ some e → InPlane (openCase r p) e
-unfolding openCase openAt
 opened-plane r H none q e z =
     let O = opens-plane (r .tasks) (shut-parts r H q) .running in
     let y : endOf (Rules.tickOf r) (r .tasks) ≡ e = some-same z in
@@ -131,7 +136,7 @@ opened-plane r H (some x) q e z = running-plane r e (open-parts r e H z)
 
 pub shares-fit : (s : State) → Whole s → (i : ℕ) → i < s .table .count → (0 < getD (s .table .share) i 0) × (getD (s .table .share) i 0 ≤ s .table .scale)
 shares-fit s W i h =
-    let F = facts (tasksAt s) (W .together .table) in
+    let F = facts (tasksAt s) (together-of W .table) in
     let n = tasks-count s in
     let e : at i (tasksAt s) .share ≡ getD (s .table .share) i 0 = ap (λ (t : Task). t .share) (task-at s i h) in
     (omega (arith, F .some-share i (omega arith)), omega (arith, F .most i))
@@ -139,14 +144,15 @@ shares-fit s W i h =
 pub can-step : (s : State) → Whole s → CanStep s
 unfolding opened
 can-step s W =
-    let F = facts (tasksAt s) (W .together .table) in
+    let F = facts (tasksAt s) (together-of W .table) in
     record {
       some-row = omega (arith, F .size, tasks-count s);
       scale = F .scale-pos;
       shares = shares-fit s W;
       order = W .order;
-      idle = λ g i. shut-parts (view s) (W .together) (ap (λ (b : Bool). if b then some (s .end) else none) g) .shut .idle i;
-      plane = opened-plane (view s) (W .together) (planeOf s) refl;
+      known = together-of W .lasts .known;
+      idle = λ g i. shut-parts (view s) (together-of W) (ap (λ (b : Bool). if b then some (s .end) else none) g) .shut .idle i;
+      plane = opened-plane (view s) (together-of W) (planeOf s) refl;
     }
 
 -- STEP
@@ -165,7 +171,7 @@ step-whole s h W lt hc =
       whole = record {
         sized = sized-by (movedOf s h .state) (M .2) (ap (λ (t : Table). length (t .order)) (K .table) ∙ W .sized .order) (K .awake ∙ W .sized .awake) (ap length (K .arrived) ∙ W .sized .arrived) (ap length (K .last) ∙ W .sized .last);
         sound = M .2;
-        together = subst Together (sym (M .0)) (moving-keeps (view s) h (W .together) lt hc);
+        together = holds-as (M .0) (moving-keeps (view s) h (together-of W) lt hc);
         order = order-kept s (movedOf s h .state) (K .table) (W .order);
       };
     }
@@ -192,10 +198,10 @@ can-arrive s i W C =
     let h : i < s .table .count = omega (arith, C .known, tasks-count s) in
     record {
       row = h;
-      sleeps = comes-asleep (view s) i (W .together) C;
-      procs = W .together .table .processors .0;
+      sleeps = comes-asleep (view s) i (together-of W) C;
+      procs = together-of W .table .processors .0;
       share = shares-fit s W i h;
-      plane = open-plane (view s) (W .together);
+      plane = open-plane (view s) (together-of W);
     }
 
 pub record Comes-whole (s : State) (i : ℕ) : Type 0 where
@@ -214,7 +220,7 @@ arrive-whole s i W C =
             (ap (λ (j : Jobs). length (j .arrived)) (K .1) ∙ length-set (s .jobs .arrived) i true ∙ W .sized .arrived)
             (ap (λ (j : Jobs). length (j .last)) (K .1) ∙ length-set (s .jobs .last) i (tickAt s) ∙ W .sized .last);
         sound = A .1;
-        together = subst Together (sym (A .0)) (arriving-keeps (view s) i (W .together) C);
+        together = holds-as (A .0) (arriving-keeps (view s) i (together-of W) C);
         order = order-kept s k (K .0) (W .order);
       };
     }

@@ -1,15 +1,12 @@
 -- What a step asks at the next instant of an open plane, and what it does there
-use mathlib.Core.Path.{_≡_, refl, sym, _∙_, ap, subst}
-use mathlib.Core.Bool.{Bool, true, false}
-use mathlib.Core.Option.{Option, none, some}
+use mathlib.Core.Path.{_≡_, sym, _∙_, ap}
+use mathlib.Core.Bool.{true}
+use mathlib.Core.Option.{none, some}
 use mathlib.Core.Logic.{_≢_}
-use mathlib.Core.List.{List, _++_}
-use Prim.Native.Nat.{ℕ, zero, suc, _+_, _*_, _-_, _/_, _≤_, _<_}
-use native.Mathlib.Nat.{mul-le-mul-right}
+use Prim.Native.Nat.{ℕ, _*_, _-_, _≤_, _<_}
 use native.Mathlib.Omega.{arith}
 use borrow.Author.Tests.{eq-eqb, ne-eqb}
-use lib.Dec.{eqb, lit≤}
-use lib.ListN.{drop}
+use lib.Dec.{lit≤}
 use Rattle.table.specs.declared.Table.{Table}
 use Rattle.state.specs.declared.State.{State}
 use Rattle.rules.specs.State as Rules
@@ -28,19 +25,19 @@ use Rattle.state.proofs.Views.{IsState, sound-is}
 use Rattle.plane.specs.Rows.{Came}
 use Rattle.plane.proofs.Ready.{events-ready, came-ready}
 use Rattle.moves.specs.Whole.{Whole, Settles}
-use Rattle.moves.proofs.Keeping.{can-step, opened-table}
+use Rattle.moves.proofs.Keeping.{can-step, opened-table, together-of}
 use Rattle.moves.proofs.Opening.{end-small, instant-small}
 use Rattle.rules.specs.Bounds.{clock}
 
 -- an open plane, as the rules know it
 pub plane-runs : (s : State) → Whole s → s .going ≡ true → Running (s .table .m) (s .table .scale) (s .now .0) (s .end) (tasksAt s)
-plane-runs s W on = open-parts (view s) (s .end) (W .together) (ap (λ b. if b then some (s .end) else none) on)
+plane-runs s W on = open-parts (view s) (s .end) (together-of W) (ap (λ b. if b then some (s .end) else none) on)
 
 -- its end fits 64 bits
 pub end-fits : (s : State) → Whole s → s .going ≡ true → (endAt s < 18446744073709551616) × (s .end ≤ 4297064447)
 end-fits s W on =
-    let h = end-small (tasksAt s) (plane-runs s W on) (W .together .clock) in
-    (instant-small (s .end) (s .table .scale) h (W .together .table .scale-most), h)
+    let h = end-small (tasksAt s) (plane-runs s W on) (together-of W .clock) in
+    (instant-small (s .end) (s .table .scale) h (together-of W .table .scale-most), h)
 
 module _ (s : State) (to : ℕ) (S : Settles s to) where
   P : Running (s .table .m) (s .table .scale) (s .now .0) (s .end) (tasksAt s)
@@ -83,7 +80,7 @@ moved-on s to e = sym (ap (λ b. if b then closedOf s to else withWork s (events
 -- A STEP
 -- the stop fits 64 bits
 pub stop-fits : (s : State) (h : ℕ) → Whole s → h ≤ clock → h * s .table .scale < 18446744073709551616
-stop-fits s h W hc = instant-small h (s .table .scale) (let b : clock ≤ 4297064447 = lit≤ tt in omega arith) (W .together .table .scale-most)
+stop-fits s h W hc = instant-small h (s .table .scale) (let b : clock ≤ 4297064447 = lit≤ tt in omega arith) (together-of W .table .scale-most)
 
 -- the opened state has the same table and present
 pub opened-terms : (s : State) → Whole s → (openedOf s .table ≡ s .table) × (openedOf s .now .0 ≡ s .now .0)

@@ -1,10 +1,9 @@
 -- A state put together from its parts, after each has changed
-use mathlib.Core.Path.{_≡_, refl, sym, _∙_, ap}
-use mathlib.Core.Bool.{Bool, true, false}
+use mathlib.Core.Path.{_≡_, _∙_, ap}
+use mathlib.Core.Bool.{Bool, false}
 use mathlib.Core.List.{List}
 use Prim.Native.Nat.{ℕ}
 use Rattle.state.specs.declared.State.{State}
-use Rattle.rules.specs.Calls.{arrive}
 use Rattle.state.specs.Machine.{noSlots, sleepAll, emptied, closedOf}
 use Rattle.plane.specs.Rows.{rows}
 use Rattle.plane.proofs.Rows.{sleep-of-rows}

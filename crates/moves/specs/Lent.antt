@@ -3,7 +3,8 @@ use mathlib.Core.Bool.{Bool}
 use mathlib.Core.List.{List}
 use denote.Ref.{RefT, now}
 use denote.Triple.Both.{Both}
-use Rattle.queue.specs.Lent.{Lent, at}
+use Rattle.ground.specs.Lent.{Lent}
+use Rattle.queue.specs.Lent.{at}
 use Rattle.state.specs.declared.State.{State}
 use Rattle.moves.specs.declared.Terms.{Terms}
 use Rattle.moves.specs.declared.Moment.{Moment}

@@ -5,9 +5,8 @@ use mathlib.Core.List.{List, _++_}
 use Prim.Native.Nat.{ℕ, _<_}
 use lib.ListN.{take, drop}
 use Rattle.rules.specs.Record.{recordBytes}
-use Rattle.rules.specs.Together.{Together}
+use Rattle.rules.specs.Holds.{holds}
 use Rattle.rules.specs.Planes.{falling, sharesOf}
-use Rattle.table.specs.declared.Table.{Table}
 use Rattle.state.specs.declared.State.{State}
 use Rattle.state.specs.Work.{nextOf}
 use Rattle.state.specs.Machine.{Moved, workOf}
@@ -17,7 +16,7 @@ use Rattle.state.specs.View.{tasksAt, view, Sound, Sized}
 pub record Whole (s : State) : Type 0 where
   pub sized : Sized s
   pub sound : Sound s
-  pub together : Together (view s)
+  pub together : holds (view s) ≡ true
   pub order : take (s .table .count) (s .table .order) ≡ falling (sharesOf (tasksAt s))
 
 -- the instant `to` is the next one of an open plane on the way to a stop

@@ -11,8 +11,9 @@ use lib.ListN.{length, getD, take, length-map}
 use lib.Seq.{getD-take}
 use Rattle.rules.specs.Events.{advance, bEvents, seize}
 use Rattle.rules.specs.Planes.{falling, sharesOf}
-use Rattle.rules.specs.State.{Task, at, amountOf, amount, runs, waits}
-use Rattle.rules.specs.Together.{Lasts}
+use Rattle.rules.specs.State.{Task, at, amount, runs, waits, lastOf}
+use Rattle.rules.proofs.Together.{Lasts}
+use Rattle.rules.proofs.Cases.{amountOf}
 use Rattle.rules.proofs.Events.{Stands, b-all}
 use Rattle.rules.proofs.Falling.{falling-below, falling-length}
 use Rattle.rules.proofs.Places.{inside}
@@ -32,6 +33,8 @@ use Rattle.state.proofs.Seizing.{c-top, frame-c}
 use Rattle.state.proofs.Shows.{Crew, Is, run-cond, wait-cond, next-same}
 use Rattle.state.proofs.Views.{IsState}
 use Rattle.plane.specs.Rows.{Came}
+use Rattle.rules.proofs.Lasts.{awake-last, awake-came}
+use Rattle.state.proofs.Lasts.{last-kept}
 
 -- A WORK THAT FITS
 -- the amounts that the plane bounds bound the keys
@@ -103,9 +106,9 @@ came-ready s l I hs L tick h small = record { few = I .tidy .few; past = past; s
   where
     past : (i : ℕ) → i < s .table .count → getD (s .jobs .awake) i false ≡ true → getD (s .jobs .last) i 0 ≤ tick
     past i hi e =
-        let z : at i l .last ≡ getD (s .jobs .last) i 0 = ap (λ (t : Task). t .last) (I .shows .each i hi) in
-        let a : at i l .last * s .table .scale ≤ s .now .0 = L .came i (L .known i (awake-at I i hi ∙ e)) in
-        let b : at i l .last * s .table .scale ≤ tick * s .table .scale = omega arith in
+        let w = awake-at I i hi ∙ e in
+        let z : lastOf (at i l) ≡ getD (s .jobs .last) i 0 = last-kept s l I i hi (lastOf (at i l)) (awake-last L i w) in
+        let b : lastOf (at i l) * s .table .scale ≤ tick * s .table .scale = omega (arith, awake-came L i w) in
         omega (arith, le-of-mul-le-mul-right b hs)
 
 -- a plane from the present, a whole tick, to tick e: the shares are at most the scale, and the order is the rules'

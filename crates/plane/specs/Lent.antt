@@ -2,7 +2,8 @@
 use mathlib.Core.List.{List}
 use Prim.Native.Nat.{ℕ}
 use denote.Ref.{RefT, now}
-use Rattle.queue.specs.Lent.{Lent, at}
+use Rattle.ground.specs.Lent.{Lent}
+use Rattle.queue.specs.Lent.{at}
 use Rattle.queue.specs.Queues.{emptyQueue}
 use Rattle.state.specs.Work.{Work}
 use Rattle.state.specs.Fit.{Fit, Yielding}

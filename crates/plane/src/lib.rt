@@ -343,7 +343,7 @@ fn shorter(period: &[u32; 128], deadline: &[u32; 128], i: usize) -> u64
     requires inside { ⌜ i < 128 ⌝ }
     ensures is { λ r. ⌜ (r < 4294967296) × ((n : ℕ) → r ≡ shorterAt (rows (now (period .entry)) (now (deadline .entry)) n) i) ⌝ }
 {
-    table::wide(table::shorter(period[i], deadline[i]))
+    ground::wide_word(table::shorter(period[i], deadline[i]))
 }
 
 // The limit of row i to a plane that opens at a tick: from the last arrival of an awake task, from the tick for one asleep.

@@ -16,13 +16,6 @@ fn put_head(room: &mut [u8], from: u64, to: u64)
     ground::put(room, 8, to, 8);
 }
 
-// A slot as a number of 64 bits.
-fn wide(x: u16) -> u64
-    ensures is { λ r. ⌜ r ≡ x ⌝ }
-{
-    x as u64
-}
-
 // The sixteen slots, by value: the room cannot lie over them, so they are stored at once.
 fn put_slots(room: &mut [u8], slots: [u16; 16])
     requires fits { ⌜ 48 ≤ length (now room) ⌝ }
@@ -30,7 +23,7 @@ fn put_slots(room: &mut [u8], slots: [u16; 16])
 {
     let mut k: usize = 0;
     while k < 16 {
-        ground::put(room, 16 + 2 * k, wide(slots[k]), 2);
+        ground::put(room, 16 + 2 * k, ground::wide_half(slots[k]), 2);
         k += 1;
     }
 }

@@ -1,4 +1,4 @@
 // The program: a text in, its listing out.
 fn main() {
-    listing::answer_from(libc::STDIN_FILENO);
+    program::list_from(libc::STDIN_FILENO);
 }

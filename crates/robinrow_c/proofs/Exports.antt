@@ -1,171 +1,124 @@
--- What each call on bytes answers and leaves, by the way it went: no image, refused, done
-use mathlib.Core.Path.{_≡_, refl, sym, ap, subst, _∙_}
-use mathlib.Core.Bool.{true, false}
-use mathlib.Core.List.{List, _++_}
-use Prim.Native.Nat.{ℕ, _*_, _≤_, _<_}
-use native.Mathlib.Decide.{decLt}
-use native.Mathlib.Omega.{arith}
-use lib.Dec.{eqb}
-use lib.ListN.{length, take, drop, length-take, drop-of-length-le}
-use lib.Seq.{take-all}
-use Rattle.ground.proofs.Tests.{eqb-says, is-true, is-false, of-true}
-use Rattle.rules.specs.Answers.{numberOf, isDone}
+-- Each export is its definition
+use mathlib.Core.Path.{_≡_, refl, sym, ap, _∙_}
+use mathlib.Core.Bool.{Bool, true, false}
+use mathlib.Core.List.{List, map}
+use Prim.Native.Nat.{ℕ}
+use lib.ListN.{length}
+use Rattle.rules.specs.declared.Answer.{Answer}
+use Rattle.rules.specs.declared.Answer.the-variants.{NotTogether}
+use Rattle.rules.specs.Answers.{numberOf}
+use Rattle.flags.specs.Flags.{bit, flag}
 use Rattle.state.specs.declared.State.{State}
-use Rattle.image.specs.Image.{imageOf, stateAt, isImage, Fitted}
-use Rattle.image.proofs.Image.{image-says, image-sized}
-use Rattle.calls.specs.declared.Admitted.{Admitted}
-use Rattle.calls.specs.declared.Arrived.{Arrived}
-use Rattle.calls.specs.declared.Stepped.{Stepped}
-use Rattle.calls.specs.declared.Ran.{Ran}
-use Rattle.calls.specs.Admit.{admitOf}
+use Rattle.admission.specs.declared.Admitted.{Admitted}
+use Rattle.admission.specs.Admit.{admitOf}
+use Rattle.refusals.specs.Arrive.{arriveAnswerOf}
+use Rattle.refusals.specs.Step.{stepAnswerOf}
+use Rattle.inplace.specs.Arrive.{arriveStateOf}
+use Rattle.inplace.specs.Step.{stepStateOf, stepRoom}
+use Rattle.inplace.specs.Run.{runStateOf, runRecordsOf, runRoom}
 use Rattle.calls.specs.Arrive.{arriveOf}
-use Rattle.calls.specs.Step.{stepOf, stepRoom}
-use Rattle.calls.specs.Run.{runOf, runRoom}
-use Rattle.robinrow_c.specs.Exports.{packedOf, admitNumber, admitImage, arriveNumber, arriveImage, stepNumber, stepImage, stepRecord, most, lent, runNumber, runCount, runImage, runRecords, Again}
-use Rattle.robinrow_c.proofs.Answers.{zero-done, records-few}
-use Rattle.robinrow_c.proofs.Again.{admit-holds, arrive-holds, step-holds, run-holds, again, call-none, call-refused, call-done}
+use Rattle.calls.specs.Step.{stepOf}
+use Rattle.calls.specs.Run.{runOf}
+use Rattle.robinrow_c.specs.Struct.{Struct, flagged, stateWith, stateOf, structOf}
+use Rattle.robinrow_c.specs.Exports.{admitNumber, admitStruct, arriveNumber, arriveStruct, stepNumber, stepStruct, stepRecord, runNumber, runCount, runStruct, runRecords}
+use Rattle.robinrow_c.proofs.Struct.{arrive-stands, going-back, arrived-back}
 
-pub image-long : (b : List ℕ) → isImage b ≡ true → length b ≡ 6745
-image-long b i = of-true (isImage b) (image-says b) i .0
-
--- ADMIT
-pub admit-none : (table : List ℕ) (m : ℕ) (b : List ℕ) → ¬ (length b ≡ 6745) → ((13 ≡ admitNumber table m b) × (b ≡ admitImage table m b)) × (_≡_ {A = ℕ} 13 0 → Again b (admitOf table m .state))
-unfolding admitNumber admitImage
-admit-none table m b n =
-    let e = is-false (eqb (length b) 6745) (eqb-says (length b) 6745) n in
-    ((rw e, rw e), λ z. absurd (omega arith))
-
-pub admit-given : (table : List ℕ) (m : ℕ) (b : List ℕ) (a : Admitted) (r : ℕ) (b′ : List ℕ) → length b ≡ 6745 → a ≡ admitOf table m → r ≡ packedOf (numberOf (a .answer)) (a .row) → b′ ≡ imageOf (a .state) → Fitted (a .state)
-    → ((r ≡ admitNumber table m b) × (b′ ≡ admitImage table m b)) × (r ≡ 0 → Again b′ (admitOf table m .state))
-unfolding admitNumber admitImage
-admit-given table m b a r b′ n e f k F =
-    let t = is-true (eqb (length b) 6745) (eqb-says (length b) 6745) n in
-    let f′ : r ≡ packedOf (numberOf (admitOf table m .answer)) (admitOf table m .row) = f ∙ ap (λ (x : Admitted). packedOf (numberOf (x .answer)) (x .row)) e in
-    let k′ : b′ ≡ imageOf (admitOf table m .state) = k ∙ ap (λ (x : Admitted). imageOf (x .state)) e in
-    ((rw (t, f′), rw (t, k′)), λ z. again b′ (admitOf table m .state) (subst (λ (x : Admitted). Fitted (x .state)) e F) k′ (admit-holds table m (zero-done (admitOf table m .answer) (omega (arith, f′, z)))))
-
--- ARRIVE
-module _ (b : List ℕ) (task : ℕ) where
-  pub arrive-none : isImage b ≡ false → ((13 ≡ arriveNumber b task) × (b ≡ arriveImage b task)) × (_≡_ {A = ℕ} 13 0 → Again b (arriveOf (stateAt b) task .state))
-  unfolding arriveNumber arriveImage
-  arrive-none i = let z = call-none b (arriveOf (stateAt b) task .answer) (arriveOf (stateAt b) task .state) i in ((z .0, z .1), λ q. absurd (omega arith))
-
-  module _ (s : State) (a : Arrived) (n : ℕ) (f : s ≡ stateAt b) (g : a ≡ arriveOf s task) (i : isImage b ≡ true) where
-    is-arrived : a ≡ arriveOf (stateAt b) task
-    is-arrived = g ∙ ap (λ (k : State). arriveOf k task) f
-
-    pub arrive-refused : isDone (a .answer) ≡ false → n ≡ numberOf (a .answer) → ((n ≡ arriveNumber b task) × (b ≡ arriveImage b task)) × (n ≡ 0 → Again b (arriveOf (stateAt b) task .state))
-    unfolding arriveNumber arriveImage
-    arrive-refused d e =
-        let z = call-refused b (arriveOf (stateAt b) task .answer) (arriveOf (stateAt b) task .state) (a .answer) n (ap (λ (r : Arrived). r .answer) is-arrived) i d e in
-        ((z .0, z .1), z .2)
-
-    pub arrive-done : (b′ : List ℕ) → isDone (a .answer) ≡ true → n ≡ numberOf (a .answer) → b′ ≡ imageOf (a .state) → Fitted (a .state)
-        → ((n ≡ arriveNumber b task) × (b′ ≡ arriveImage b task)) × (n ≡ 0 → Again b′ (arriveOf (stateAt b) task .state))
-    unfolding arriveNumber arriveImage
-    arrive-done b′ d e k F =
-        let z = call-done b (arriveOf (stateAt b) task .answer) (arriveOf (stateAt b) task .state) (arrive-holds (stateAt b) task (image-sized b)) (a .answer) (a .state) n b′ (ap (λ (r : Arrived). r .answer) is-arrived) (ap (λ (r : Arrived). r .state) is-arrived) i d e k F in
-        ((z .0, z .1), z .2)
-
--- STEP
-module _ (b : List ℕ) (horizon : ℕ) (room : List ℕ) where
-  pub step-none : isImage b ≡ false
-      → ((13 ≡ stepNumber b horizon room) × (b ≡ stepImage b horizon room) × (room ≡ stepRecord b horizon room)) × (_≡_ {A = ℕ} 13 0 → Again b (stepOf (stateAt b) horizon (length room) .state))
-  unfolding stepNumber stepImage stepRecord
-  step-none i =
-      let r = stepOf (stateAt b) horizon (length room) in
-      let z = call-none b (r .answer) (r .state) i in
-      ((z .0, z .1, rw i), λ q. absurd (omega arith))
-
-  module _ (s : State) (a : Stepped) (n : ℕ) (room′ : List ℕ) (f : s ≡ stateAt b) (g : a ≡ stepOf s horizon (length room)) (h : room′ ≡ stepRoom s horizon room) (i : isImage b ≡ true) where
-    is-stepped : a ≡ stepOf (stateAt b) horizon (length room)
-    is-stepped = g ∙ ap (λ (k : State). stepOf k horizon (length room)) f
-
-    is-recorded : room′ ≡ stepRecord b horizon room
-    unfolding stepRecord
-    is-recorded = let e : room′ ≡ stepRoom (stateAt b) horizon room = h ∙ ap (λ (k : State). stepRoom k horizon room) f in rw (i, e)
-
-    pub step-refused : isDone (a .answer) ≡ false → n ≡ numberOf (a .answer)
-        → ((n ≡ stepNumber b horizon room) × (b ≡ stepImage b horizon room) × (room′ ≡ stepRecord b horizon room)) × (n ≡ 0 → Again b (stepOf (stateAt b) horizon (length room) .state))
-    unfolding stepNumber stepImage
-    step-refused d e =
-        let r = stepOf (stateAt b) horizon (length room) in
-        let z = call-refused b (r .answer) (r .state) (a .answer) n (ap (λ (r : Stepped). r .answer) is-stepped) i d e in
-        ((z .0, z .1, is-recorded), z .2)
-
-    pub step-done : (b′ : List ℕ) → isDone (a .answer) ≡ true → n ≡ numberOf (a .answer) → b′ ≡ imageOf (a .state) → Fitted (a .state)
-        → ((n ≡ stepNumber b horizon room) × (b′ ≡ stepImage b horizon room) × (room′ ≡ stepRecord b horizon room)) × (n ≡ 0 → Again b′ (stepOf (stateAt b) horizon (length room) .state))
-    unfolding stepNumber stepImage
-    step-done b′ d e k F =
-        let r = stepOf (stateAt b) horizon (length room) in
-        let z = call-done b (r .answer) (r .state) (step-holds (stateAt b) horizon room (image-sized b)) (a .answer) (a .state) n b′ (ap (λ (r : Stepped). r .answer) is-stepped) (ap (λ (r : Stepped). r .state) is-stepped) i d e k F in
-        ((z .0, z .1, is-recorded), z .2)
-
--- RUN
--- the part of the room that is lent
-pub lent-part : (room : List ℕ) (n : ℕ) → n ≤ length room → n ≤ most → (n < most → n ≡ length room) → (take n room ≡ lent room) × (drop n room ≡ drop most room)
-lent-part room n h k e = go (decLt n most)
+-- ADMISSION, by what it leaves in the lent arrays
+pub admit-good : (bytes : List ℕ) (m : ℕ) (x : Admitted) → x ≡ admitOf bytes m → (n : ℕ) → n ≡ numberOf (x .answer) → (awake arrived : List ℕ) → awake ≡ map bit (x .state .jobs .awake) → arrived ≡ map bit (x .state .jobs .arrived)
+    → (n ≡ admitNumber bytes m) × (x .row ≡ admitOf bytes m .row)
+    × (record {
+      table = x .state .table;
+      now = x .state .now .0;
+      going = bit (x .state .going);
+      end = x .state .end;
+      awake = awake;
+      arrived = arrived;
+      last = x .state .jobs .last;
+      running = x .state .running;
+      waiting = x .state .waiting;
+      slots = x .state .slots;
+    }
+    ≡ admitStruct bytes m)
+admit-good bytes m x e n en awake arrived e4 e5 =
+    (en ∙ ap (λ (y : Admitted). numberOf (y .answer)) e, ap (λ (y : Admitted). y .row) e, ap (λ l. with-flags l arrived) e4 ∙ ap (λ l. with-flags (map bit (x .state .jobs .awake)) l) e5 ∙ ap (λ (y : Admitted). structOf (y .state)) e)
   where
-    go : Dec (n < most) → (take n room ≡ lent room) × (drop n room ≡ drop most room)
-    go (yes l) =
-        let z = e l in
-        (take-all n room (omega arith) ∙ sym (take-all most room (omega arith)), drop-of-length-le room {i = n} (omega arith) ∙ sym (drop-of-length-le room {i = most} (omega arith)))
-    go (no l) = let z : n ≡ most = omega arith in (ap (λ (x : ℕ). take x room) z, ap (λ (x : ℕ). drop x room) z)
+    with-flags : List ℕ → List ℕ → Struct
+    with-flags a b = record { table = x .state .table; now = x .state .now .0; going = bit (x .state .going); end = x .state .end; awake = a; arrived = b; last = x .state .jobs .last; running = x .state .running; waiting = x .state .waiting; slots = x .state .slots }
 
-module _ (b : List ℕ) (horizon : ℕ) (room : List ℕ) where
-  pub run-none : isImage b ≡ false
-      → ((13 ≡ packedOf (runNumber b horizon room) (runCount b horizon room)) × (b ≡ runImage b horizon room) × (room ≡ runRecords b horizon room))
-      × (runNumber b horizon room ≡ 0 → Again b (runOf (stateAt b) horizon (length (lent room)) .state))
-  unfolding runNumber runCount runImage runRecords
-  run-none i =
-      let r = runOf (stateAt b) horizon (length (lent room)) in
-      let z = call-none b (r .answer) (r .state) i in
-      let m : runNumber b horizon room ≡ 13 = sym (z .0) in
-      let c : runCount b horizon room ≡ 0 = rw i in
-      ((omega (arith, m, c), z .1, rw i), λ q. absurd (omega (arith, m, q)))
+-- A STRUCT WITH OTHER BYTES FOR FLAGS
+module _ (c : Struct) (bad : flagged c ≡ false) (n : ℕ) (e : n ≡ numberOf NotTogether) where
+  pub arrive-bad : (task : ℕ) → (n ≡ arriveNumber c task) × (c ≡ arriveStruct c task)
+  unfolding arriveNumber arriveStruct
+  arrive-bad task = (rw (bad, e), rw bad)
 
-  module _ (s : State) (a : Ran) (n : ℕ) (f : s ≡ stateAt b) (g : a ≡ runOf s horizon (length (lent room))) (i : isImage b ≡ true) (e : n ≡ packedOf (numberOf (a .answer)) (a .records)) (room′ : List ℕ) (h : room′ ≡ runRoom s horizon (lent room) ++ drop most room) where
-    is-ran : a ≡ runOf (stateAt b) horizon (length (lent room))
-    is-ran = g ∙ ap (λ (k : State). runOf k horizon (length (lent room))) f
+  pub step-bad : (horizon : ℕ) (room : List ℕ) → (n ≡ stepNumber c horizon room) × (c ≡ stepStruct c horizon room) × (room ≡ stepRecord c horizon room)
+  unfolding stepNumber stepStruct stepRecord
+  step-bad horizon room = (rw (bad, e), rw bad, rw bad)
 
-    are-recorded : room′ ≡ runRecords b horizon room
-    unfolding runRecords
-    are-recorded =
-        let e : room′ ≡ runRoom (stateAt b) horizon (lent room) ++ drop most room = h ∙ ap (λ (k : State). runRoom k horizon (lent room) ++ drop most room) f in
-        rw (i, e)
+  pub run-bad : (horizon : ℕ) (room : List ℕ) → (n ≡ runNumber c horizon room) × (c ≡ runStruct c horizon room) × (0 ≡ runCount c horizon room) × (room ≡ runRecords c horizon room)
+  unfolding runNumber runStruct runCount runRecords
+  run-bad horizon room = (rw (bad, e), rw bad, rw bad, rw bad)
 
-    is-packed : n ≡ packedOf (runNumber b horizon room) (runCount b horizon room)
-    unfolding runNumber runCount
-    is-packed =
-        let e′ : n ≡ packedOf (numberOf (runOf (stateAt b) horizon (length (lent room)) .answer)) (runOf (stateAt b) horizon (length (lent room)) .records) = e ∙ ap (λ (r : Ran). packedOf (numberOf (r .answer)) (r .records)) is-ran in
-        rw (i, e′)
+-- the flags that were read
+module _ (c : Struct) (up came : List Bool) (eu : up ≡ map flag (c .awake)) (ec : came ≡ map flag (c .arrived)) where
+  same : stateWith c up came ≡ stateOf c
+  same = ap (λ l. stateWith c l came) eu ∙ ap (λ l. stateWith c (map flag (c .awake)) l) ec
 
-    pub run-refused : isDone (a .answer) ≡ false
-        → ((n ≡ packedOf (runNumber b horizon room) (runCount b horizon room)) × (b ≡ runImage b horizon room) × (room′ ≡ runRecords b horizon room))
-        × (runNumber b horizon room ≡ 0 → Again b (runOf (stateAt b) horizon (length (lent room)) .state))
-    unfolding runNumber runImage
-    run-refused d =
-        let r = runOf (stateAt b) horizon (length (lent room)) in
-        let z = call-refused b (r .answer) (r .state) (a .answer) (numberOf (a .answer)) (ap (λ (r : Ran). r .answer) is-ran) i d refl in
-        ((is-packed, z .1, are-recorded), λ q. z .2 (z .0 ∙ q))
+  module _ (ok : flagged c ≡ true) (n : ℕ) (a : Answer) (en : n ≡ numberOf a) (k : State) where
+    -- the struct handed back: its flags are written, the rest is where it was worked on
+    put-back : (present going end : ℕ) (awake arrived : List ℕ) → present ≡ k .now .0 → going ≡ bit (k .going) → end ≡ k .end → awake ≡ map bit (k .jobs .awake) → arrived ≡ map bit (k .jobs .arrived)
+        → record { table = k .table; now = present; going = going; end = end; awake = awake; arrived = arrived; last = k .jobs .last; running = k .running; waiting = k .waiting; slots = k .slots } ≡ structOf k
+    put-back present going end awake arrived e1 e2 e3 e4 e5 = rw (e1, e2, e3, e4, e5)
 
-    pub run-done : (b′ : List ℕ) → isDone (a .answer) ≡ true → b′ ≡ imageOf (a .state) → Fitted (a .state)
-        → ((n ≡ packedOf (runNumber b horizon room) (runCount b horizon room)) × (b′ ≡ runImage b horizon room) × (room′ ≡ runRecords b horizon room))
-        × (runNumber b horizon room ≡ 0 → Again b′ (runOf (stateAt b) horizon (length (lent room)) .state))
-    unfolding runNumber runImage
-    run-done b′ d k F =
-        let r = runOf (stateAt b) horizon (length (lent room)) in
-        let z = call-done b (r .answer) (r .state) (run-holds (stateAt b) horizon (lent room) (image-sized b)) (a .answer) (a .state) (numberOf (a .answer)) b′ (ap (λ (r : Ran). r .answer) is-ran) (ap (λ (r : Ran). r .state) is-ran) i d refl k F in
-        ((is-packed, z .1, are-recorded), λ q. z .2 (z .0 ∙ q))
+    pub arrive-good : (task : ℕ) → (a ≡ arriveAnswerOf (stateWith c up came) task) × (k ≡ arriveStateOf (stateWith c up came) task) → (awake arrived : List ℕ) → awake ≡ map bit (k .jobs .awake) → arrived ≡ map bit (k .jobs .arrived)
+        → (n ≡ arriveNumber c task)
+        × (record { table = k .table; now = c .now; going = c .going; end = c .end; awake = awake; arrived = arrived; last = k .jobs .last; running = k .running; waiting = k .waiting; slots = k .slots } ≡ arriveStruct c task)
+    unfolding arriveNumber arriveStruct arriveOf
+    arrive-good task e awake arrived e4 e5 =
+        let st = arrive-stands (stateWith c up came) task in
+        let e1 : c .now ≡ k .now .0 = sym (ap (λ (x : State). x .now .0) (e .1) ∙ st .present) in
+        let e2 : c .going ≡ bit (k .going) = sym (ap (λ (x : State). bit (x .going)) (e .1) ∙ ap bit (st .going) ∙ going-back c ok) in
+        let e3 : c .end ≡ k .end = sym (ap (λ (x : State). x .end) (e .1) ∙ st .end) in
+        let s : arriveAnswerOf (stateWith c up came) task ≡ arriveAnswerOf (stateOf c) task = ap (λ x. arriveAnswerOf x task) same in
+        let t : k ≡ arriveStateOf (stateOf c) task = e .1 ∙ ap (λ (x : State). arriveStateOf x task) same in
+        let z : n ≡ numberOf (arriveAnswerOf (stateOf c) task) = en ∙ ap numberOf (e .0 ∙ s) in
+        (rw (ok, z), put-back (c .now) (c .going) (c .end) awake arrived e1 e2 e3 e4 e5 ∙ rw (ok, t))
 
--- its records fit beside the number
-pub run-few : (s : State) (horizon : ℕ) (room : List ℕ) (n : ℕ) (a : Ran) → a ≡ runOf s horizon (length (take n room)) → n ≤ most → 48 * a .records ≤ most
-run-few s h room n a e k =
-    let few = records-few s h (length (take n room)) in
-    omega (arith, ap (λ (r : Ran). 48 * r .records) e, length-take n room)
+    -- a step or a run only reads the arrivals
+    arrived-same : k .jobs .arrived ≡ came → c .arrived ≡ map bit (k .jobs .arrived)
+    arrived-same e = sym (ap (map bit) (e ∙ ec) ∙ arrived-back c ok)
 
--- the room after a run on its part
-pub ran-part : (s : State) (horizon : ℕ) (room : List ℕ) (n : ℕ) (part : List ℕ) → (take n room ≡ lent room) × (drop n room ≡ drop most room) → part ≡ runRoom s horizon (take n room)
-    → part ++ drop n room ≡ runRoom s horizon (lent room) ++ drop most room
-ran-part s h room n part l e =
-    ap (λ (q : List ℕ). q ++ drop n room) (e ∙ ap (runRoom s h) (l .0)) ∙ ap (λ (q : List ℕ). runRoom s h (lent room) ++ q) (l .1)
+    module _ (horizon : ℕ) (room : List ℕ) (going : ℕ) (awake : List ℕ) (eg : going ≡ bit (k .going)) (ea : awake ≡ map bit (k .jobs .awake)) (er : k .jobs .arrived ≡ came)
+        (e : a ≡ stepAnswerOf (stateWith c up came) horizon (length room)) where
+      -- the struct handed back
+      put : record { table = k .table; now = k .now .0; going = going; end = k .end; awake = awake; arrived = c .arrived; last = k .jobs .last; running = k .running; waiting = k .waiting; slots = k .slots }
+          ≡ structOf k
+      put = put-back (k .now .0) going (k .end) awake (c .arrived) refl eg refl ea (arrived-same er)
+
+      told : n ≡ numberOf (stepAnswerOf (stateOf c) horizon (length room))
+      told = en ∙ ap numberOf (e ∙ ap (λ x. stepAnswerOf x horizon (length room)) same)
+
+      pub step-good : k ≡ stepStateOf (stateWith c up came) horizon (length room) → (l : List ℕ) → l ≡ stepRoom (stateWith c up came) horizon room
+          → (n ≡ stepNumber c horizon room)
+          × (record { table = k .table; now = k .now .0; going = going; end = k .end; awake = awake; arrived = c .arrived; last = k .jobs .last; running = k .running; waiting = k .waiting; slots = k .slots }
+          ≡ stepStruct c horizon room)
+          × (l ≡ stepRecord c horizon room)
+      unfolding stepNumber stepStruct stepRecord stepOf
+      step-good f l g =
+          let t : k ≡ stepStateOf (stateOf c) horizon (length room) = f ∙ ap (λ (x : State). stepStateOf x horizon (length room)) same in
+          let u : l ≡ stepRoom (stateOf c) horizon room = g ∙ ap (λ (x : State). stepRoom x horizon room) same in
+          (rw (ok, told), put ∙ rw (ok, t), rw (ok, u))
+
+      pub run-good : k ≡ runStateOf (stateWith c up came) horizon (length room) → (r : ℕ) → r ≡ runRecordsOf (stateWith c up came) horizon (length room)
+          → (l : List ℕ) → l ≡ runRoom (stateWith c up came) horizon room
+          → (n ≡ runNumber c horizon room)
+          × (record { table = k .table; now = k .now .0; going = going; end = k .end; awake = awake; arrived = c .arrived; last = k .jobs .last; running = k .running; waiting = k .waiting; slots = k .slots }
+          ≡ runStruct c horizon room)
+          × (r ≡ runCount c horizon room)
+          × (l ≡ runRecords c horizon room)
+      unfolding runNumber runStruct runCount runRecords runOf
+      run-good f r h l g =
+          let t : k ≡ runStateOf (stateOf c) horizon (length room) = f ∙ ap (λ (x : State). runStateOf x horizon (length room)) same in
+          let u : l ≡ runRoom (stateOf c) horizon room = g ∙ ap (λ (x : State). runRoom x horizon room) same in
+          let v : r ≡ runRecordsOf (stateOf c) horizon (length room) = h ∙ ap (λ (x : State). runRecordsOf x horizon (length room)) same in
+          (rw (ok, told), put ∙ rw (ok, t), rw (ok, v), rw (ok, u))

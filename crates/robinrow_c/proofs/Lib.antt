@@ -1,4 +1,5 @@
-pub mod Answers
-pub mod Again
+pub mod Struct
 pub mod Exports
 pub mod Refusals
+pub mod InC
+pub mod Rules

@@ -1,87 +1,66 @@
--- A refusal changes no byte
-use mathlib.Core.Path.{_≡_, refl, sym, ap, _∙_}
+-- A refusal changes nothing
+use mathlib.Core.Path.{_≡_, refl, ap, _∙_}
 use mathlib.Core.Bool.{Bool, true, false}
-use mathlib.Core.List.{List, _++_}
+use mathlib.Core.List.{List}
 use Prim.Native.Nat.{ℕ}
-use lib.Dec.{eqb}
-use lib.ListN.{length, drop, replicate, take-append-drop, drop-of-length-le}
-use lib.Seq.{take-all}
-use Rattle.ground.specs.Bytes.{le}
+use lib.ListN.{length}
 use Rattle.ground.specs.Tests.{if_then_else_}
-use Rattle.ground.proofs.Tests.{eqb-says, is-true, is-false}
 use Rattle.rules.specs.declared.Answer.{Answer}
 use Rattle.rules.specs.declared.Answer.the-variants.{Done}
-use Rattle.rules.specs.Answers.{isDone}
-use Rattle.rules.proofs.Keeping.{not-both}
-use Rattle.state.specs.declared.State.{State}
-use Rattle.image.specs.Columns.{columnBytes, bytesBy}
-use Rattle.image.specs.Image.{layout, columnsOf, wordsOf, imageOf, stateAt, isImage}
-use Rattle.calls.specs.Admit.{blankState, admitOf}
+use Rattle.rules.specs.Answers.{numberOf}
+use Rattle.admission.specs.Admit.{admitOf}
+use Rattle.inplace.specs.Step.{stepRoom}
+use Rattle.inplace.specs.Run.{runRoom}
 use Rattle.calls.specs.Arrive.{arriveOf}
-use Rattle.calls.specs.Step.{stepOf, stepRoom}
-use Rattle.calls.specs.Run.{runOf, runRoom}
+use Rattle.calls.specs.Step.{stepOf}
+use Rattle.calls.specs.Run.{runOf}
 use Rattle.demands.proofs.Demands.{demand-1}
-use Rattle.robinrow_c.specs.Exports.{noImage, numberBy, imageBy, admitNumber, admitImage, arriveNumber, arriveImage, stepNumber, stepImage, stepRecord, most, lent, runNumber, runCount, runImage, runRecords, Refusals}
-use Rattle.calls.proofs.Answering.{done-is}
+use Rattle.robinrow_c.specs.Struct.{Struct, flagged, stateOf, structOf}
+use Rattle.robinrow_c.specs.Exports.{arriveNumber, arriveStruct, stepNumber, stepStruct, stepRecord, runNumber, runCount, runStruct, runRecords, Refusals}
+use Rattle.robinrow_c.proofs.Struct.{state-struct}
 
--- the blank state is all zero
-blank-image : imageOf blankState ≡ replicate 6745 0
-unfolding imageOf bytesBy layout columnsOf wordsOf columnBytes le
-blank-image = refl
+-- an answer whose number is not 0 is not Done
+pub not-done : (a : Answer) → ¬ (numberOf a ≡ 0) → ¬ (a ≡ Done)
+not-done a n e = n (ap numberOf e)
 
--- no image, or an answer other than 0
-module _ (b : List ℕ) (a : Answer) (n : ¬ (numberBy b a ≡ 0)) where
-  refused : (P : Bool → Bool → Type 0) → ((d : Bool) → P false d) → (¬ (a ≡ Done) → P true false) → P (isImage b) (isDone a)
-  refused P f g = go (isImage b) refl (isDone a) refl
-    where
-      go : (i : Bool) → isImage b ≡ i → (d : Bool) → isDone a ≡ d → P i d
-      go false e d k = f d
-      go true e false k = g (λ z. not-both _ (sym k ∙ ap isDone z))
-      go true e true k = absurd (n (rw (e, done-is a k)))
+-- flags or not
+pub by-flags : (c : Struct) (P : Bool → Type 0) → (flagged c ≡ true → P true) → P false → P (flagged c)
+by-flags c P f g = go (flagged c) refl
+  where
+    go : (b : Bool) → flagged c ≡ b → P b
+    go true e = f e
+    go false e = g
 
-  kept : (s : State) → imageBy b a s ≡ b
-  kept s = refused (λ i d. (if i then (if d then imageOf s else b) else b) ≡ b) (λ d. refl) (λ q. refl)
+arrive-kept : (c : Struct) (task : ℕ) → ¬ (arriveNumber c task ≡ 0) → arriveStruct c task ≡ c
+unfolding arriveNumber arriveStruct
+arrive-kept c task =
+    let r = arriveOf (stateOf c) task in
+    by-flags c (λ b. ¬ ((if b then numberOf (r .answer) else 13) ≡ 0) → (if b then structOf (r .state) else c) ≡ c)
+    (λ ok n. ap structOf (demand-1 .arrives (stateOf c) task .refused (not-done (r .answer) n)) ∙ state-struct c ok)
+    (λ n. refl)
 
-step-kept : (b : List ℕ) (h : ℕ) (room : List ℕ) → ¬ (stepNumber b h room ≡ 0) → (stepImage b h room ≡ b) × (stepRecord b h room ≡ room)
-unfolding stepNumber stepImage stepRecord
-step-kept b h room n =
-    let s = stateAt b in
-    let r = stepOf s h (length room) in
-    (kept b (r .answer) n (r .state), refused b (r .answer) n (λ i d. (if i then stepRoom s h room else room) ≡ room) (λ d. refl) (λ q. demand-1 .steps s h room .refused q .1))
+step-kept : (c : Struct) (h : ℕ) (room : List ℕ) → ¬ (stepNumber c h room ≡ 0) → (stepStruct c h room ≡ c) × (stepRecord c h room ≡ room)
+unfolding stepNumber stepStruct stepRecord
+step-kept c h room =
+    let r = stepOf (stateOf c) h (length room) in
+    by-flags c (λ b. ¬ ((if b then numberOf (r .answer) else 13) ≡ 0) → ((if b then structOf (r .state) else c) ≡ c) × ((if b then stepRoom (stateOf c) h room else room) ≡ room))
+    (λ ok n. let k = demand-1 .steps (stateOf c) h room .refused (not-done (r .answer) n) in (ap structOf (k .0) ∙ state-struct c ok, k .1))
+    (λ n. (refl, refl))
 
-run-kept : (b : List ℕ) (h : ℕ) (room : List ℕ) → ¬ (runNumber b h room ≡ 0) → (runImage b h room ≡ b) × (runRecords b h room ≡ room) × (runCount b h room ≡ 0)
-unfolding runNumber runImage runRecords runCount
-run-kept b h room n =
-    let s = stateAt b in
-    let l = lent room in
-    let r = runOf s h (length l) in (
-      kept b (r .answer) n (r .state),
-      refused b (r .answer) n (λ i d. (if i then runRoom s h l ++ drop most room else room) ≡ room) (λ d. refl)
-          (λ q. ap (λ (x : List ℕ). x ++ drop most room) (demand-1 .runs s h l .refused q .2) ∙ take-append-drop most room),
-      refused b (r .answer) n (λ i d. (if i then r .records else 0) ≡ 0) (λ d. refl) (λ q. demand-1 .runs s h l .refused q .1),
-    )
-
-arrive-kept : (b : List ℕ) (task : ℕ) → ¬ (arriveNumber b task ≡ 0) → arriveImage b task ≡ b
-unfolding arriveNumber arriveImage
-arrive-kept b task n = kept b (arriveOf (stateAt b) task .answer) n (arriveOf (stateAt b) task .state)
-
-admit-other : (table : List ℕ) (m : ℕ) (b : List ℕ) → ¬ (length b ≡ 6745) → (admitNumber table m b ≡ noImage) × (admitImage table m b ≡ b)
-unfolding admitNumber admitImage
-admit-other table m b n = let e = is-false (eqb (length b) 6745) (eqb-says (length b) 6745) n in (rw e, rw e)
-
-admit-blank : (table : List ℕ) (m : ℕ) (b : List ℕ) → length b ≡ 6745 → ¬ (admitOf table m .answer ≡ Done) → admitImage table m b ≡ replicate 6745 0
-unfolding admitImage
-admit-blank table m b e q =
-    let t = is-true (eqb (length b) 6745) (eqb-says (length b) 6745) e in
-    let z : imageOf (admitOf table m .state) ≡ replicate 6745 0 = ap imageOf (demand-1 .admits table m .refused q .0) ∙ blank-image in
-    rw (t, z)
+run-kept : (c : Struct) (h : ℕ) (room : List ℕ) → ¬ (runNumber c h room ≡ 0) → (runStruct c h room ≡ c) × (runRecords c h room ≡ room) × (runCount c h room ≡ 0)
+unfolding runNumber runStruct runRecords runCount
+run-kept c h room =
+    let r = runOf (stateOf c) h (length room) in
+    by-flags c
+    (λ b. ¬ ((if b then numberOf (r .answer) else 13) ≡ 0)
+    → ((if b then structOf (r .state) else c) ≡ c) × ((if b then runRoom (stateOf c) h room else room) ≡ room) × ((if b then r .records else 0) ≡ 0))
+    (λ ok n. let k = demand-1 .runs (stateOf c) h room .refused (not-done (r .answer) n) in (ap structOf (k .0) ∙ state-struct c ok, k .2, k .1))
+    (λ n. (refl, refl, refl))
 
 pub refusals : Refusals
 refusals = record {
-  admit-other = admit-other;
-  admit = admit-blank;
+  admit = λ table m n. ap structOf (demand-1 .admits table m .refused (not-done (admitOf table m .answer) n) .0);
   arrive = arrive-kept;
   step = step-kept;
   run = run-kept;
-  lent-all = λ room h. (take-all most room h, drop-of-length-le room {i = most} h);
 }

@@ -1,1 +1,3 @@
+pub mod Struct
+pub mod Lent
 pub mod Exports

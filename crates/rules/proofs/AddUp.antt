@@ -1,6 +1,6 @@
 -- The figures with numbers add up: each holds of the rules by computation
 use mathlib.Core.Path.{refl}
-use Rattle.rules.specs.Computed.{computed}
+use Rattle.rules.proofs.Computed.{computed}
 use Rattle.rules.specs.Listings.{Listings}
 use Rattle.rules.specs.Handed.{Handed}
 use Rattle.rules.specs.Answered.{Answered}
@@ -18,6 +18,7 @@ listings = record {
   p3-end = refl;
   p4 = refl;
   p4-end = refl;
+  asleep-again = refl;
   asleep-counts = refl;
   sleeper-first = refl;
   sporadic = refl;
@@ -53,6 +54,8 @@ handed = record {
   asleep-by-present = refl;
   asleep-by-arrival = refl;
   asleep-too-long = refl;
+  asleep-by-later-arrival = refl;
+  asleep-too-long-since = refl;
   closed-holds = refl;
   closed-off-tick = refl;
   closed-due = refl;

@@ -13,11 +13,10 @@ use Rattle.ground.specs.Tests.{if_then_else_, Says}
 use Rattle.ground.proofs.Tests.{leb-says, ltb-says, and-says, says-as}
 use Rattle.rules.specs.Admission.{faultOf, Verdict, plain, faultFrom, sizeVerdict, orElse, rowsVerdict}
 use Rattle.rules.specs.Answers.{isDone}
-use Rattle.rules.specs.Reasons.{RowInRange, RowOk}
+use Rattle.rules.specs.Reasons.{InRange, RowInRange, RowOk}
 use Rattle.rules.specs.Scale.{scaleOf, shareOf, fits}
 use Rattle.rules.specs.State.{noRow}
 use Rattle.rules.specs.Table.{Row, shorter, inRange, rowInRange}
-use Rattle.rules.specs.Together.{InRange}
 
 range-says : (x : ℕ) → Says (InRange x) (inRange x)
 range-says x = and-says (1 ≤ x) (x ≤ mostTicks) (leb 1 x) (leb x mostTicks) (leb-says 1 x) (leb-says x mostTicks)

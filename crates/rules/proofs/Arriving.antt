@@ -1,7 +1,7 @@
 -- An arrival at a whole tick, into a closed or an open plane, keeps a state together
-use mathlib.Core.Path.{_≡_, refl, sym, _∙_, ap}
+use mathlib.Core.Path.{_≡_, refl, sym, _∙_, ap, subst}
 use mathlib.Core.Bool.{true}
-use mathlib.Core.Option.{Option, none, some}
+use mathlib.Core.Option.{Option, none, some, Option·some-injective}
 use mathlib.Core.Logic.{_≢_}
 use mathlib.Core.List.{List}
 use Prim.Native.Nat.{ℕ, zero, suc, _+_, _*_, _-_, _/_, _≤_, _<_}
@@ -17,12 +17,13 @@ use Rattle.ground.proofs.Sums.{sumOf-set, sumOf-at, sumOf-const, sumOf-add, sum
 use Rattle.ground.proofs.Tests.{ltb-says, eqb-says, if-by}
 use Rattle.ground.proofs.Times.{up-length, same-yes, same-no, up-once, by-same}
 use Rattle.rules.specs.Calls.{lowestIdle, wake, arriveIdle}
-use Rattle.rules.specs.Events.{takeFrom, seize}
+use Rattle.rules.specs.Events.{seize}
 use Rattle.rules.specs.Keys.{runKey, least}
 use Rattle.rules.specs.Record.{onProc}
-use Rattle.rules.specs.State.{running, Cond, asleep, resting, waiting, Task, State, nobody, at, period, short, isAwake, amountOf, runsOf, waitsOf, onOf, amount, proc, runs, waits, on, awakeShare}
+use Rattle.rules.specs.State.{running, Cond, asleep, resting, waiting, Task, State, nobody, at, period, short, isAwake, amount, proc, runs, waits, on, awakeShare, due}
 use Rattle.rules.specs.Table.{Row}
-use Rattle.rules.specs.Together.{Awake, Table, Seats, Lasts}
+use Rattle.rules.proofs.Together.{Awake, Table, Seats, Lasts}
+use Rattle.rules.proofs.Cases.{amountOf, runsOf, waitsOf, onOf, takeFrom}
 use Rattle.rules.proofs.Events.{Stands, Core, Kept, kept-refl, kept-take}
 use Rattle.rules.proofs.Keeping.{kept-alike, table-kept, lasts-kept, Running, running-stands, stands-seats, not-both, Resting, idle-seats}
 use Rattle.rules.proofs.Places.{inside, least-is}
@@ -86,7 +87,7 @@ idle-is l p (suc n) = go (onProc p 1 l) refl (lowestIdle l (suc p) n) (idle-is l
 
 -- WAKING
 abbrev pub woken : ℕ → Cond → Task → Task
-woken tick c t = record { row = t.row; share = t.share; cond = c; arrived = true; last = tick }
+woken tick c t = record { row = t.row; share = t.share; cond = c; last = some tick }
 
 module _ (i tick : ℕ) (c : Cond) (l : List Task) (hi : i < length l) where
   pub wake-same : at i (wake i tick c l) ≡ woken tick c (at i l)
@@ -120,8 +121,8 @@ module _ (i tick : ℕ) (c : Cond) (l : List Task) (hi : i < length l) where
 
   wake-lasts : {scale now : ℕ} → tick * scale ≤ now → Lasts scale now l → Lasts scale now (wake i tick c l)
   wake-lasts {scale} {now} h L = record {
-    known = λ j. wake-by j (λ t. Awake t → t.arrived ≡ true) (λ _ w. refl) (λ _. L .known j);
-    came = λ j. wake-by j (λ t. t.arrived ≡ true → t.last * scale ≤ now) (λ _ w. h) (λ _. L .came j);
+    known = λ j. wake-by j (λ t. Awake t → (a : ℕ) × (t.last ≡ some a)) (λ _ w. (tick, refl)) (λ _. L .known j);
+    came = λ j. wake-by j (λ t. (a : ℕ) → t.last ≡ some a → a * scale ≤ now) (λ _ a e. subst (λ x. x * scale ≤ now) (Option·some-injective tick a e) h) (λ _. L .came j);
   }
 
 -- into a closed plane: "the task is simply awake"
@@ -137,13 +138,13 @@ wakes-shut {m} {scale} {now} i l hi P =
       shut = record {
         whole = P .shut .whole;
         idle = idle;
-        due = λ j. wake-by i tick resting l hi j (λ t. Awake t → tick < t.last + short t) (λ _ w. omega (arith, facts l (P .table) .some-q i hi)) (λ _. P .shut .due j);
+        due = λ j. wake-by i tick resting l hi j (λ t. Awake t → tick < due t) (λ _ w. omega (arith, facts l (P .table) .some-q i hi)) (λ _. P .shut .due j);
       };
     }
 
 -- into an open plane
 module _ {m scale now e : ℕ} (i tick : ℕ) (l : List Task) (hi : i < length l) (P : Running m scale now e l) (whole : now ≡ tick * scale) (sl : at i l .cond ≡ asleep)
-    (late : at i l .arrived ≡ true → at i l .last + period (at i l) ≤ tick) where
+    (late : (b : ℕ) → at i l .last ≡ some b → b + period (at i l) ≤ tick) where
   abbrev a : ℕ
   a = at i l .share * (e - tick)
 
@@ -264,11 +265,11 @@ module _ {m scale now e : ℕ} (i tick : ℕ) (l : List Task) (hi : i < length l
             busy = λ v. omega (arith, S .fits .busy v);
             total = S .fits .total;
             due = λ j v. rw (A .last j, A .row j)
-                (wake-by i tick c l hi j (λ t. Awake t → e ≤ t.last + short t) (λ _ _. P .going .free i hi not-awake tick (omega arith) late) (λ _. P .going .due j) (A .awake j v));
+                (wake-by i tick c l hi j (λ t. Awake t → e ≤ due t) (λ _ _. P .going .free i hi not-awake tick (omega arith) late) (λ _. P .going .due j) (A .awake j v));
             free = λ j hj v t ht b.
                 let per : period (at j k) ≡ period (at j w) = ap (λ (r : Row). r .period) (A .row j) in
-                rw (A .row j) (wake-by i tick c l hi j (λ t′. ¬ Awake t′ → (t′ .arrived ≡ true → t′ .last + period t′ ≤ t) → e ≤ t + short t′) (λ _ n _. absurd (n wc))
-                (λ _ n b′. P .going .free j (omega (arith, A .size, wake-size i tick c l hi)) n t ht b′) (λ v′. v (still j v′)) (λ q. omega (arith, b (A .arrived j ∙ q), A .last j, per)));
+                rw (A .row j) (wake-by i tick c l hi j (λ t′. ¬ Awake t′ → ((b : ℕ) → t′ .last ≡ some b → b + period t′ ≤ t) → e ≤ t + short t′) (λ _ n _. absurd (n wc))
+                (λ _ n b′. P .going .free j (omega (arith, A .size, wake-size i tick c l hi)) n t ht b′) (λ v′. v (still j v′)) (λ x q. omega (arith, b x (A .last j ∙ q), per)));
           };
         };
         cond = c;

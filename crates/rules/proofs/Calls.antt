@@ -13,16 +13,18 @@ use Rattle.ground.specs.Bytes.{le}
 use Rattle.ground.specs.Tests.{Says}
 use Rattle.ground.proofs.Tests.{eqb-says}
 use Rattle.rules.specs.Bounds.{clock}
-use Rattle.rules.specs.Calls.{lowestIdle, wake, arriveIn, arriving, Moved, after, moveTo, moveIn, moving}
+use Rattle.rules.specs.Calls.{lowestIdle, wake, arriveIn, arriving, Moved, after, moving}
 use Rattle.rules.specs.Events.{nextAt}
-use Rattle.rules.specs.Planes.{endOf, openAt, openCase, opened}
+use Rattle.rules.specs.Planes.{endOf, opened}
 use Rattle.rules.specs.Reasons.{Comes}
-use Rattle.rules.specs.State.{running, Cond, asleep, resting, waiting, Task, State, at, isAwake, tickOf}
-use Rattle.rules.specs.Together.{Awake, Plane, Together}
+use Rattle.rules.specs.State.{running, Cond, asleep, resting, waiting, Task, State, at, isAwake, tickOf, lastOf}
+use Rattle.rules.proofs.Together.{Awake, Plane, Together}
+use Rattle.rules.proofs.Cases.{openAt, openCase, moveIn}
 use Rattle.rules.proofs.Arriving.{idle-is, woken, wake-same, wake-other, wake-size, wake-by, wakes-shut, arrives}
 use Rattle.rules.proofs.Events.{Core, core, Kept, kept-refl}
 use Rattle.rules.proofs.Keeping.{Running, running-stands, runs-on, Resting, closes, opens-plane}
 use Rattle.rules.proofs.Time.{Next, next-ok}
+use Rattle.rules.proofs.Lasts.{awake-last}
 
 -- the present of a whole tick
 pub tick-of : (now scale tick : ℕ) → 0 < scale → now ≡ tick * scale → now / scale ≡ tick
@@ -53,13 +55,11 @@ after-keeps s e to stop P N c false q =
     record { table = R .table; clock = c; seats = R .seats; lasts = R .lasts; plane = R .going }
 
 move-keeps : (s : State) (h e : ℕ) → Running s.m s.scale s.now e s.tasks → s.now < h * s.scale → h ≤ clock → Together (moveIn s (some e) h .state)
-unfolding moveIn moveTo
 move-keeps s h e P lt hc =
     let N = next-is s.tasks (h * s.scale) P lt in
     after-keeps s e _ (h * s.scale) P N (omega (arith, N .by-stop, mul-le-mul-right s.scale hc)) _ (eqb-says _ (e * s.scale))
 
 case-keeps : (s : State) (h : ℕ) → Together s → s.now < h * s.scale → h ≤ clock → (p : Option ℕ) → s.plane ≡ p → Together (moveIn (openCase s p) (openCase s p .plane) h .state)
-unfolding openCase openAt
 case-keeps s h H lt hc none q =
     let O = opens-plane s.tasks (shut-parts s H q) in
     move-keeps (openAt s (tickOf s) (endOf (tickOf s) s.tasks)) h (endOf (tickOf s) s.tasks) (O .running) lt hc
@@ -69,7 +69,7 @@ pub moving-keeps : (s : State) (h : ℕ) → Together s → s.now < h * s.scale 
 unfolding moving opened
 moving-keeps s h H lt hc = case-keeps s h H lt hc s.plane refl
 
--- "time moves": the record goes from the present to a later instant, no later than the horizon, and so does the state
+-- time moves: the record goes from the present to a later instant, no later than the horizon, and so does the state
 pub record Moves (s : State) (h : ℕ) (x : Moved) : Type 0 where
   pub from-now : x .rec .from ≡ s.now
   pub later : x .rec .from < x .rec .to
@@ -78,20 +78,18 @@ pub record Moves (s : State) (h : ℕ) (x : Moved) : Type 0 where
   pub same-m : x .state .m ≡ s.m
   pub same-scale : x .state .scale ≡ s.scale
 
-after-now : (s : State) (e to : ℕ) (b : Bool) → (after s e to b .now ≡ to) × (after s e to b .m ≡ s.m) × (after s e to b .scale ≡ s.scale)
+pub after-now : (s : State) (e to : ℕ) (b : Bool) → (after s e to b .now ≡ to) × (after s e to b .m ≡ s.m) × (after s e to b .scale ≡ s.scale)
 unfolding after
 after-now s e to true = (refl, refl, refl)
 after-now s e to false = (refl, refl, refl)
 
 move-moves : (s : State) (h e : ℕ) → Running s.m s.scale s.now e s.tasks → s.now < h * s.scale → Moves s h (moveIn s (some e) h)
-unfolding moveIn moveTo
 move-moves s h e P lt =
     let N = next-is s.tasks (h * s.scale) P lt in
     let A = after-now s e (nextAt (e * s.scale) s.now s.tasks (h * s.scale)) (eqb (nextAt (e * s.scale) s.now s.tasks (h * s.scale)) (e * s.scale)) in
     record { from-now = refl; later = N .moves; by-horizon = N .by-stop; arrives = A .0; same-m = A .1; same-scale = A .2 }
 
 case-moves : (s : State) (h : ℕ) → Together s → s.now < h * s.scale → (p : Option ℕ) → s.plane ≡ p → Moves s h (moveIn (openCase s p) (openCase s p .plane) h)
-unfolding openCase openAt
 case-moves s h H lt none q =
     let O = opens-plane s.tasks (shut-parts s H q) in
     let M = move-moves (openAt s (tickOf s) (endOf (tickOf s) s.tasks)) h (endOf (tickOf s) s.tasks) (O .running) lt in
@@ -114,9 +112,9 @@ pub comes-asleep : (s : State) (i : ℕ) → Together s → Comes s i → at i s
 comes-asleep s i H C = not-awake-is (at i s.tasks .cond) (λ w. case s.plane (H .plane) w)
   where
     case : (p : Option ℕ) → Plane s p → Awake (at i s.tasks) → ⊥
-    case none S w = omega (arith, S .due i w, C .late (H .lasts .known i w))
+    case none S w = omega (arith, S .due i w, C .late (lastOf (at i s.tasks)) (awake-last (H .lasts) i w))
     case (some e) G w =
-        let le : e ≤ tickOf s = omega (arith, G .due i w, C .late (H .lasts .known i w)) in
+        let le : e ≤ tickOf s = omega (arith, G .due i w, C .late (lastOf (at i s.tasks)) (awake-last (H .lasts) i w)) in
         omega (arith, mul-le-mul-right s.scale le, C .whole, G .later)
 
 arrive-case : (s : State) (i : ℕ) → Together s → Comes s i → at i s.tasks .cond ≡ asleep → (p : Option ℕ) → s.plane ≡ p
@@ -138,8 +136,7 @@ pub record Takes (i tick : ℕ) (l k : List Task) : Type 0 where
   pub size : length k ≡ length l
   pub row : (j : ℕ) → at j k .row ≡ at j l .row
   pub awake : Awake (at i k)
-  pub arrived : at i k .arrived ≡ true
-  pub last : at i k .last ≡ tick
+  pub last : at i k .last ≡ some tick
   pub others : (j : ℕ) → j ≢ i → core (at j k) ≡ core (at j l)
 
 kept-takes : (i tick : ℕ) (c : Cond) (l k : List Task) → i < length l → isAwake c ≡ true → Kept (wake i tick c l) k → Takes i tick l k
@@ -150,7 +147,6 @@ kept-takes i tick c l k hi up K =
       size = K .size ∙ wake-size i tick c l hi;
       row = λ j. ap (λ (x : Core). x .row) (K .same j) ∙ wake-by i tick c l hi j (λ t. t.row ≡ at j l .row) (λ q. rw q) (λ _. refl);
       awake = ap (λ (x : Core). x .awake) here ∙ up;
-      arrived = ap (λ (x : Core). x .arrived) here;
       last = ap (λ (x : Core). x .last) here;
       others = λ j n. K .same j ∙ ap core (wake-other i tick c l hi j n);
     }

@@ -1,7 +1,7 @@
 -- Demand 3 holds of the rules: whatever table, whatever calls
 use mathlib.Core.Path.{_≡_, refl, sym, _∙_, ap, subst}
 use mathlib.Core.Bool.{Bool, true, false}
-use mathlib.Core.Option.{Option, none, some}
+use mathlib.Core.Option.{Option, none, some, Option·getD}
 use mathlib.Core.Logic.{inl, _↔_}
 use mathlib.Core.List.{List, [], _∷_, _++_, map}
 use Prim.Native.Nat.{ℕ, zero, suc, _+_, _*_, _-_, _≤_, _<_}
@@ -20,9 +20,9 @@ use Rattle.ground.specs.Sums.{upFrom}
 use Rattle.ground.proofs.Times.{up-length}
 use Rattle.rules.specs.Answers.{isDone}
 use Rattle.rules.specs.Events.{nextAt}
-use Rattle.rules.specs.Planes.{endOf, openAt, openCase, opened}
+use Rattle.rules.specs.Planes.{endOf, opened}
 use Rattle.rules.specs.Record.{Record, onProc, slotsOf}
-use Rattle.rules.specs.Calls.{arriveAnswer, arriving, arrive, Moved, after, moveTo, moveIn, moving, stepAnswer, step}
+use Rattle.rules.specs.Calls.{arriveAnswer, arriving, arrive, Moved, after, moving, stepAnswer, step}
 use Rattle.rules.specs.Demands.{Job, Course, NextOf, Demand3, OthersStay}
 use Rattle.rules.specs.History.{In, Within, cameBy, planeEnd}
 use Rattle.rules.specs.Reasons.{ArriveReason}
@@ -30,15 +30,17 @@ use Rattle.rules.specs.Run.{Arrival, Call, arriveCall, stepCall, Run, pe
 use Rattle.rules.specs.Scale.{scaleOf}
 use Rattle.rules.specs.State.{Task, State, noRow, at, short, isAwake, tickOf, fresh, admitted}
 use Rattle.rules.specs.Table.{Row, rowsOf}
-use Rattle.rules.specs.Together.{Together}
+use Rattle.rules.proofs.Together.{Together}
+use Rattle.rules.proofs.Cases.{openAt, openCase, moveIn}
 use Rattle.rules.proofs.Ends.{end-rises}
 use Rattle.rules.proofs.Events.{Core}
-use Rattle.rules.proofs.Calls.{tick-of, moving-moves, arriving-takes}
+use Rattle.rules.proofs.Calls.{tick-of, moving-moves, arriving-takes, after-now}
 use Rattle.rules.proofs.Keeping.{not-both}
 use Rattle.rules.proofs.Refusing.{arrive-answers, arrive-exact, step-exact}
 use Rattle.rules.proofs.Standing.{facts}
 use Rattle.rules.proofs.Starting.{at-fresh, rows-back, all-asleep, admitted-together, admit-passes}
-use Rattle.rules.proofs.Jobs.{F, scale-is, size-is, row-is, lastOf, step-is, step-refused, by-answer, perform-good, Good, run-good, all-split, all-in, done-comes}
+use Rattle.rules.proofs.Holding.{together-is, holds-is}
+use Rattle.rules.proofs.Jobs.{F, scale-is, size-is, row-is, step-is, step-refused, by-answer, perform-good, Good, run-good, all-split, all-in, done-comes}
 
 pub start-good : (bytes : List ℕ) (m : ℕ) → admit bytes m .answer ≡ Done → Good (rowsOf bytes) (starting (admit bytes m .state))
 unfolding admit planeEnd cameBy
@@ -95,21 +97,18 @@ abbrev Past : ℕ → Moved → Type 0
 Past m x = (x .state .m ≡ m) × ((p : ℕ) → m ≤ p → getD (x .rec .slots) p 0 ≡ 0)
 
 move-past : (s : State) (h : ℕ) (o : Option ℕ) → Past s.m (moveIn s o h)
-unfolding moveIn moveTo
-move-past s h none = (refl, λ p le. refl)
-move-past s h (some e) = (kept (eqb (nextAt (e * s.scale) s.now s.tasks (h * s.scale)) (e * s.scale)), λ p le. past-m s.m s.tasks p le)
+move-past s h o = (kept (Option·getD o 0), λ p le. past-m s.m s.tasks p le)
   where
-    kept : (b : Bool) → after s e (nextAt (e * s.scale) s.now s.tasks (h * s.scale)) b .m ≡ s.m
-    kept true = unfold after in refl
-    kept false = unfold after in refl
+    kept : (e : ℕ) → after s e (nextAt (e * s.scale) s.now s.tasks (h * s.scale)) (eqb (nextAt (e * s.scale) s.now s.tasks (h * s.scale)) (e * s.scale)) .m ≡ s.m
+    kept e = after-now s e _ _ .1
 
 moving-past : (s : State) (h : ℕ) → Past s.m (moving s h)
 unfolding moving opened
 moving-past s h = go s.plane
   where
     go : (o : Option ℕ) → Past s.m (moveIn (openCase s o) (openCase s o .plane) h)
-    go none = unfold openCase openAt in (move-past (openAt s (tickOf s) (endOf (tickOf s) s.tasks)) h (some (endOf (tickOf s) s.tasks)))
-    go (some e) = unfold openCase in (move-past s h s.plane)
+    go none = move-past (openAt s (tickOf s) (endOf (tickOf s) s.tasks)) h (some (endOf (tickOf s) s.tasks))
+    go (some e) = move-past s h s.plane
 
 within-more : (m : ℕ) (rs : List Record) (r : Record) → Within m rs → ((p : ℕ) → m ≤ p → getD r.slots p 0 ≡ 0) → Within m (rs ++ (r ∷ []))
 within-more m [] r o h = (h, tt)
@@ -166,34 +165,30 @@ next-of rows r G = record { takes = takes; moves = moves }
     takes : (task tick : ℕ) → 1 ≤ task → task ≤ length rows → r .state .now ≡ tick * scaleOf rows
         → (arrive (r .state) task .answer ≡ Done) ↔ ((a : ℕ) → cameBy task tick (r .arrivals) ≡ some a → a + getD rows (task - 1) noRow .period ≤ tick)
     takes task tick lo hi e = unfold arrive in (
-      (λ d. let R = subst (ArriveReason (r .state) task) d (arrive-answers (r .state) task) in λ a c. seen (u .arrived) (u .last) a (λ x lt. R .3 (x, rw tk (omega (arith, lt, per)))) (sym latest ∙ c)),
+      (λ d. let R = subst (ArriveReason (r .state) task) d (arrive-answers (r .state) task) in λ a c. seen a (λ lt. R .3 (a, sym latest ∙ c, rw tk (omega (arith, lt, per))))),
       (λ f. arrive-exact (r .state) task Done (
-        G .together,
+        holds-is s (G .together),
         (lo, omega (arith, size-is rows r G)),
         e ∙ ap (λ x. tick * x) (sym sc) ∙ ap (λ x. x * r .state .scale) (sym tk),
-        λ S. let z = f (u .last) (latest ∙ ap (λ b. if b then some (u .last) else none) (S .0)) in let w = S .1 in omega (arith, z, w, tk, per),
+        λ S. let z = f (S .0) (latest ∙ S .1) in omega (arith, z, S .2, tk, per),
       )),
     )
       where
-        u : Task
-        u = at (task - 1) (r .state .tasks)
-
         tk : tickOf (r .state) ≡ tick
         tk = tick-of (r .state .now) (r .state .scale) tick (F rows r G .scale-pos) (e ∙ ap (λ x. tick * x) (sym sc))
 
-        latest : cameBy task tick (r .arrivals) ≡ lastOf (at (task - 1) (r .state .tasks))
+        latest : cameBy task tick (r .arrivals) ≡ at (task - 1) (r .state .tasks) .last
         latest = let i : suc (task - 1) ≡ task = omega arith in rw i at (G .latest (task - 1) (omega arith) tick (omega arith))
 
         per : at (task - 1) (r .state .tasks) .row .period ≡ getD rows (task - 1) noRow .period
         per = ap (λ (x : Row). x .period) (row-is rows r G (task - 1))
 
-        seen : (b : Bool) (l a : ℕ) → (b ≡ true → tick < l + getD rows (task - 1) noRow .period → ⊥) → _≡_ {A = Option ℕ} (if b then some l else none) (some a) → a + getD rows (task - 1) noRow .period ≤ tick
-        seen true l a n z = let y : l ≡ a = cc in let k = n refl in go (decLt tick (l + getD rows (task - 1) noRow .period)) k y
+        seen : (a : ℕ) → ¬ (tick < a + getD rows (task - 1) noRow .period) → a + getD rows (task - 1) noRow .period ≤ tick
+        seen a n = go (decLt tick (a + getD rows (task - 1) noRow .period))
           where
-            go : Dec (tick < l + getD rows (task - 1) noRow .period) → (tick < l + getD rows (task - 1) noRow .period → ⊥) → l ≡ a → a + getD rows (task - 1) noRow .period ≤ tick
-            go (yes q) k y = absurd (k q)
-            go (no q) k y = omega arith
-        seen false l a n z = let y : _≡_ {A = ℕ} 0 1 = cc in absurd (omega arith)
+            go : Dec (tick < a + getD rows (task - 1) noRow .period) → a + getD rows (task - 1) noRow .period ≤ tick
+            go (yes q) = absurd (n q)
+            go (no q) = omega arith
 
     answered : (h : ℕ) (room : List ℕ) → stepAnswer (r .state) h (length room) ≡ Done → step (r .state) h room .answer ≡ Done
     answered h room d = unfold step in d
@@ -202,7 +197,7 @@ next-of rows r G = record { takes = takes; moves = moves }
         → (step (r .state) horizon room .answer ≡ Done) × (r .state .now < step (r .state) horizon room .state .now) × (step (r .state) horizon room .state .now ≤ horizon * scaleOf rows)
     moves h room a b c =
         let lt : r .state .now < h * r .state .scale = omega (arith, c, ap (λ x. h * x) sc) in
-        let d = step-exact (r .state) h (length room) Done (G .together, a, b, lt) in
+        let d = step-exact (r .state) h (length room) Done (holds-is s (G .together), a, b, lt) in
         let M = moving-moves (r .state) h (G .together) lt in
         let S = step-is rows r G h room d .state in
         (answered h room d, rw S (omega (arith, M .arrives, M .from-now, M .later)), rw S (omega (arith, M .arrives, M .by-horizon, ap (λ x. h * x) sc)))
@@ -239,11 +234,10 @@ pub others-stay : OthersStay
 unfolding arrive
 others-stay s task d j n =
     let R = subst (ArriveReason s task) d (arrive-answers s task) in
-    let c = arriving-takes s (task - 1) (R .0) (done-comes s task R) .others j (λ q. n (omega (arith, R .1))) in
+    let c = arriving-takes s (task - 1) (together-is s (R .0)) (done-comes s task R) .others j (λ q. n (omega (arith, R .1))) in
     rw d (record {
       row = ap (λ (x : Core). x .row) c;
       share = ap (λ (x : Core). x .share) c;
-      arrived = ap (λ (x : Core). x .arrived) c;
       last = ap (λ (x : Core). x .last) c;
       awake = ap (λ (x : Core). x .awake) c;
       left = ap (λ (x : Core). x .left) c;

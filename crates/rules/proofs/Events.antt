@@ -13,10 +13,11 @@ use Rattle.ground.specs.Sums.{sumOf}
 use Rattle.ground.specs.Tests.{if_then_else_, Says}
 use Rattle.ground.proofs.Sums.{sumOf-mono, sumOf-at, sumOf-none}
 use Rattle.ground.proofs.Tests.{leb-says, eqb-says, if-by}
-use Rattle.rules.specs.Events.{giveTo, give, takeFrom, seize, bCase, bEvent, bEvents, cEventsIn, cEvents, events}
-use Rattle.rules.specs.Keys.{waitKeyOf, runKey, waitKey, Best, nope, best, least}
-use Rattle.rules.specs.State.{Cond, asleep, resting, running, waiting, Task, nobody, at, become, isAwake, amountOf, runsOf, waitsOf, amount, proc, runs, waits}
+use Rattle.rules.specs.Events.{give, seize, bEvent, bEvents, cEventsIn, cEvents, events}
+use Rattle.rules.specs.Keys.{runKey, waitKey, Best, nope, best, least}
+use Rattle.rules.specs.State.{Cond, asleep, resting, running, waiting, Task, nobody, at, become, isAwake, amount, proc, runs, waits}
 use Rattle.rules.specs.Table.{Row}
+use Rattle.rules.proofs.Cases.{amountOf, runsOf, waitsOf, waitKeyOf, giveTo, takeFrom, bCase}
 use Rattle.rules.proofs.Places.{at-same, at-other, length-become, one-become, keeps, anywhere, sum-two, IsLeast, least-is, by-places}
 use Rattle.rules.proofs.Plane.{Fits, is-waiting, not-running, is-running, give-ok, rest-ok, Alive, crowded, victim, seize-ok}
 
@@ -30,13 +31,12 @@ pub record Stands (m scale R : ℕ) (l : List Task) : Type 0 where
 pub record Core : Type 0 where
   pub row : Row
   pub share : ℕ
-  pub arrived : Bool
-  pub last : ℕ
+  pub last : Option ℕ
   pub awake : Bool
   pub left : ℕ
 
 abbrev pub coreIn : Task → Cond → Core
-coreIn t c = record { row = t.row; share = t.share; arrived = t.arrived; last = t.last; awake = isAwake c; left = amountOf c }
+coreIn t c = record { row = t.row; share = t.share; last = t.last; awake = isAwake c; left = amountOf c }
 
 abbrev pub core : Task → Core
 core t = coreIn t t.cond
@@ -55,12 +55,10 @@ pub kept-become : (l : List Task) (i : ℕ) (c d : Cond) → i < length l → at
 kept-become l i c d hi e f = record { size = length-become l i d; same = keeps core l i d hi (f ∙ ap (coreIn (at i l)) (sym e)) }
 
 pub kept-give : (end p : ℕ) (l : List Task) (b : Best) → IsLeast (waitKey end) l b → Kept l (giveTo p l b)
-unfolding giveTo
 kept-give end p l nope h = kept-refl l
 kept-give end p l (best i k) h = kept-become l i _ _ (h .0) (is-waiting end (at i l .cond) k (h .1) .0) refl
 
 pub kept-take : (now i : ℕ) (l : List Task) → i < length l → at i l .cond ≡ waiting (amount (at i l)) → (b : Best) → IsLeast (runKey now) l b → Kept l (takeFrom i l b)
-unfolding takeFrom
 kept-take now i l hi e nope h = kept-refl l
 kept-take now i l hi e (best j k) h =
     let f = is-running now (at j l .cond) k (h .1) .0 in
@@ -72,7 +70,6 @@ kept-take now i l hi e (best j k) h =
 -- B EVENTS
 pub give-alive : (end p : ℕ) (l : List Task) → ((i : ℕ) → waits (at i l) ≤ amount (at i l)) → (b : Best) → IsLeast (waitKey end) l b
     → (j : ℕ) → runs (at j l) ≤ amount (at j l) → runs (at j (giveTo p l b)) ≤ amount (at j (giveTo p l b))
-unfolding giveTo
 give-alive end p l w nope h j a = a
 give-alive end p l w (best i k) h j a =
     one-become (λ t. runs t ≤ amount t) l i (running p (amount (at i l))) (h .0) (omega (arith, w i, ap waitsOf (is-waiting end (at i l .cond) k (h .1) .0))) j a
@@ -102,7 +99,6 @@ module _ (m scale R : ℕ) where
       }
 
   pub b-ok : (end : ℕ) (l : List Task) (i : ℕ) → i < length l → Fits 0 m scale R l → (c : Cond) → at i l .cond ≡ c → BDone l i (bCase end l i c)
-  unfolding bCase
   b-ok end l i hi F asleep e = b-still l i F (omega (arith, ap runsOf e))
   b-ok end l i hi F resting e = b-still l i F (omega (arith, ap runsOf e))
   b-ok end l i hi F (waiting a) e = b-still l i F (omega (arith, ap runsOf e))
@@ -176,7 +172,6 @@ module _ (m scale R : ℕ) where
     -- a critical task takes a processor: one less is late
     fewer-late : (i : ℕ) (l : List Task) → i < length l → at i l .cond ≡ waiting (amount (at i l)) → R ≤ amount (at i l) → Fits 0 m scale R l
         → (b : Best) → IsLeast (runKey now) l b → sumOf late (takeFrom i l b) + 1 ≡ sumOf late l
-    unfolding takeFrom
     fewer-late i l hi e h F nope L =
         absurd (crowded hR hs i l hi e F h (λ j. let z : runs (at j l) ≡ 0 = not-running now (at j l .cond) (L j) in rw z (omega arith)))
     fewer-late i l hi e h F (best j k) L =

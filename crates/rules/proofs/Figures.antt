@@ -10,26 +10,24 @@ use Rattle.rules.specs.declared.Answer.{Answer}
 use Rattle.rules.specs.declared.Answer.the-variants.{Done, RowExecution, Scale, TooSoon}
 use Rattle.ground.specs.Sums.{sumOf}
 use Rattle.ground.specs.Tests.{if_then_else_}
-use Rattle.ground.proofs.Tests.{of-true}
 use Rattle.rules.specs.Admission.{Verdict, admit}
 use Rattle.rules.specs.Answered.{admits}
 use Rattle.rules.specs.Answers.{numberOf, isDone}
 use Rattle.rules.specs.Calls.{arriveAnswer}
 use Rattle.rules.specs.Figures.{ArrivedAgo, Figures}
-use Rattle.rules.specs.Holds.{holds}
 use Rattle.rules.specs.Listings.{row, scaleIn}
-use Rattle.rules.specs.Reasons.{ProcessorsOk, LengthOk, RowsOk, AdmitReason}
+use Rattle.rules.specs.Reasons.{InRange, ProcessorsOk, LengthOk, RowsOk, AdmitReason}
 use Rattle.rules.specs.Scale.{gcdIn, gcd, lcm, scaleFrom, scaleOf, shareOf}
 use Rattle.rules.specs.State.{State, blank, admitted, at, period}
 use Rattle.rules.specs.Table.{Row, rowsOf, shorter, tableBytes}
-use Rattle.rules.specs.Together.{InRange}
 use Rattle.rules.proofs.Calls.{tick-of}
 use Rattle.rules.proofs.AddUp.{listings, handed, answered, histories}
-use Rattle.rules.proofs.Holding.{holds-says}
+use Rattle.rules.proofs.Holding.{together-is}
 use Rattle.rules.proofs.Reading.{table-rows, length-table}
 use Rattle.rules.proofs.Refusing.{admit-exact, arrive-exact}
 use Rattle.rules.proofs.Scale.{scale-unique, share-at-most}
 use Rattle.rules.proofs.Standing.{facts}
+use mathlib.Core.Option.{Option·some-injective}
 
 -- a reason gives its number and row, and done gives the scale of the rows
 told : (rows : List Row) (m : ℕ) (a : Answer) (i : ℕ) → AdmitReason (tableBytes rows) m a i → admits rows m ≡ (numberOf a, i)
@@ -118,13 +116,15 @@ figures = record {
   where
     p9 : (s : State) (task : ℕ) → ArrivedAgo s task (period (at (task - 1) s.tasks)) → numberOf (arriveAnswer s task) ≡ 0
     p9 s task B =
-        let H = of-true (holds s) (holds-says s) (B .together) in
-        let t = tick-of s.now s.scale (at (task - 1) s.tasks .last + period (at (task - 1) s.tasks)) (facts s.tasks (H .table) .scale-pos) (B .ago) in
-        ap numberOf (arrive-exact s task Done (H, B .known, B .ago ∙ ap (λ x. x * s.scale) (sym t), λ q. omega (arith, q .1)))
+        let H = together-is s (B .together) in
+        let C = B .came in
+        let t = tick-of s.now s.scale (C .0 + period (at (task - 1) s.tasks)) (facts s.tasks (H .table) .scale-pos) (C .2) in
+        ap numberOf (arrive-exact s task Done (B .together, B .known, C .2 ∙ ap (λ x. x * s.scale) (sym t), λ q. let z = Option·some-injective (q .0) (C .0) (sym (q .1) ∙ C .1) in omega (arith, q .2)))
 
     p10 : (s : State) (task : ℕ) → ArrivedAgo s task (period (at (task - 1) s.tasks) - 1) → numberOf (arriveAnswer s task) ≡ 9
     p10 s task B =
-        let H = of-true (holds s) (holds-says s) (B .together) in
-        let t = tick-of s.now s.scale (at (task - 1) s.tasks .last + (period (at (task - 1) s.tasks) - 1)) (facts s.tasks (H .table) .scale-pos) (B .ago) in
+        let H = together-is s (B .together) in
+        let C = B .came in
+        let t = tick-of s.now s.scale (C .0 + (period (at (task - 1) s.tasks) - 1)) (facts s.tasks (H .table) .scale-pos) (C .2) in
         let some-p = H .table .ranges (task - 1) (omega (arith, B .known)) .0 .0 in
-        ap numberOf (arrive-exact s task TooSoon (H, B .known, B .ago ∙ ap (λ x. x * s.scale) (sym t), (B .came, omega arith)))
+        ap numberOf (arrive-exact s task TooSoon (B .together, B .known, C .2 ∙ ap (λ x. x * s.scale) (sym t), (C .0, C .1, omega arith)))

@@ -1,7 +1,7 @@
 -- The test `holds` says that a state holds together, clause by clause
-use mathlib.Core.Path.{_≡_, refl, sym, _∙_}
+use mathlib.Core.Path.{_≡_, refl, sym, _∙_, subst, ap}
 use mathlib.Core.Bool.{Bool, true, false, not, _&&_}
-use mathlib.Core.Option.{Option, none, some}
+use mathlib.Core.Option.{Option, none, some, Option·some-injective}
 use mathlib.Core.Logic.{_⊎_, inl, inr}
 use mathlib.Core.List.{List, map}
 use Prim.Native.Nat.{ℕ, _+_, _*_, _-_, _/_, _%_, _≤_, _<_, max}
@@ -14,19 +14,21 @@ use Rattle.ground.specs.Bytes.{le}
 use Rattle.ground.specs.Sums.{sumOf}
 use Rattle.ground.specs.Tests.{if_then_else_, Says, every}
 use Rattle.ground.proofs.Sums.{sumOf-cong, sumOf-none, sumOf-map}
-use Rattle.ground.proofs.Tests.{leb-says, ltb-says, eqb-says, and-says, or-says, says-as, if-by, every-says, every-up-says}
+use Rattle.ground.proofs.Tests.{leb-says, ltb-says, eqb-says, and-says, or-says, says-as, if-by, every-says, every-up-says, of-true, is-true}
 use Rattle.ground.proofs.Times.{same-no}
 use Rattle.rules.specs.Bounds.{clock}
 use Rattle.rules.specs.Admission.{processorsOk, rowsVerdict}
 use Rattle.rules.specs.Answers.{isDone}
-use Rattle.rules.specs.Holds.{rowsIn, tableHolds, clockHolds, seated, conditionsHold, lastHolds, lastsHold, restsAt, closedHolds, amountFits, idleHolds, sumHolds, ceilTick, soonest, limitHolds, openHolds, planeHolds, holds}
+use Rattle.rules.specs.Holds.{rowsIn, tableHolds, clockHolds, seated, conditionsHold, lastHolds, lastsHold, restsAt, closedHolds, amountFits, idleHolds, sumHolds, ceilTick, limitHolds, openHolds, planeHolds, holds}
 use Rattle.rules.specs.Scale.{scaleOf, shareOf}
-use Rattle.rules.specs.State.{Cond, asleep, resting, running, waiting, Task, State, nobody, blank, at, period, short, isAwake, amountOf, procOf, runsOf, waitsOf, onOf, amount, proc, runs, waits, on, awakeShare, tickOf, onTick}
-use Rattle.rules.specs.Together.{Awake, Table, Seats, Lasts, Shut, Going, Plane, Together}
+use Rattle.rules.specs.State.{Cond, asleep, resting, running, waiting, Task, State, nobody, blank, at, period, short, isAwake, amount, proc, runs, waits, on, awakeShare, tickOf, onTick, due, soonest}
+use Rattle.rules.proofs.Together.{Awake, Table, Seats, Lasts, Shut, Going, Plane, Together}
+use Rattle.rules.proofs.Cases.{amountOf, procOf, runsOf, waitsOf, onOf}
 use Rattle.rules.proofs.Admitting.{RowsPass, rows-says}
 use Rattle.rules.proofs.Keeping.{not-both}
 use Rattle.rules.proofs.Places.{anywhere}
 use Rattle.rules.proofs.Standing.{row-at, facts, awake-inside}
+use Rattle.rules.proofs.Lasts.{never}
 
 -- TABLE
 pub processors-says : (m : ℕ) → Says ((1 ≤ m) × (m ≤ 16)) (processorsOk m)
@@ -113,15 +115,16 @@ seats-says s =
 
 -- LAST ARRIVALS
 abbrev LastOk : ℕ → ℕ → Task → Type 0
-LastOk scale now t = (Awake t → t.arrived ≡ true) × (t.arrived ≡ true → t.last * scale ≤ now)
+LastOk scale now t = (Awake t → (a : ℕ) × (t.last ≡ some a)) × ((a : ℕ) → t.last ≡ some a → a * scale ≤ now)
 
 last-says : (s : State) (t : Task) → Says (LastOk s.scale s.now t) (lastHolds s t)
-last-says s t = go t.arrived (isAwake t.cond)
+last-says s t = go t.last (isAwake t.cond)
   where
-    go : (a w : Bool) → Says ((w ≡ true → a ≡ true) × (a ≡ true → t.last * s.scale ≤ s.now)) (if a then leb (t.last * s.scale) s.now else not w)
-    go true w = says-as (leb (t.last * s.scale) s.now) (λ h. ((λ _. refl), λ _. h)) (λ h. h .1 refl) (leb-says (t.last * s.scale) s.now)
-    go false true = λ h. not-both ⊥ (h .0 refl)
-    go false false = ((λ e. e), λ e. not-both _ e)
+    go : (o : Option ℕ) (w : Bool) → Says ((w ≡ true → (a : ℕ) × (o ≡ some a)) × ((a : ℕ) → o ≡ some a → a * s.scale ≤ s.now)) (elim o [ none ↦ not w | some a ↦ leb (a * s.scale) s.now ])
+    go (some b) w =
+        says-as (leb (b * s.scale) s.now) (λ h. ((λ _. (b, refl)), λ a e. subst (λ x. x * s.scale ≤ s.now) (Option·some-injective b a e) h)) (λ h. h .1 b refl) (leb-says (b * s.scale) s.now)
+    go none true = λ h. never (h .0 refl .1)
+    go none false = ((λ e. not-both _ e), λ a e. never e)
 
 pub lasts-says : (s : State) → Says (Lasts s.scale s.now s.tasks) (lastsHold s)
 unfolding lastsHold
@@ -131,7 +134,7 @@ lasts-says s =
   where
     of : ((j : ℕ) → j < length s.tasks → LastOk s.scale s.now (at j s.tasks)) → Lasts s.scale s.now s.tasks
     of h =
-        let all = anywhere (LastOk s.scale s.now) s.tasks ((λ e. e), λ e. not-both _ e) h in
+        let all = anywhere (LastOk s.scale s.now) s.tasks ((λ e. not-both _ e), λ a e. never e) h in
         record { known = λ j. all j .0; came = λ j. all j .1 }
 
 -- A CLOSED PLANE
@@ -141,15 +144,15 @@ tick-says s =
     says-as (onTick s) (λ h. omega arith) (λ h. omega arith) (eqb-says (s.now % s.scale) 0)
 
 abbrev RestOk : ℕ → Task → Type 0
-RestOk tick t = (runs t + waits t ≡ 0) × (Awake t → tick < t.last + short t)
+RestOk tick t = (runs t + waits t ≡ 0) × (Awake t → tick < due t)
 
 rest-says : (tick : ℕ) (t : Task) → Says (RestOk tick t) (restsAt tick t)
 rest-says tick t =
-    and-says (runs t + waits t ≡ 0) (Awake t → tick < t.last + short t) (eqb (runs t + waits t) 0) (if isAwake t.cond then ltb tick (t.last + short t) else true)
+    and-says (runs t + waits t ≡ 0) (Awake t → tick < due t) (eqb (runs t + waits t) 0) (if isAwake t.cond then ltb tick (due t) else true)
     (eqb-says (runs t + waits t) 0) (go (isAwake t.cond))
   where
-    go : (w : Bool) → Says (w ≡ true → tick < t.last + short t) (if w then ltb tick (t.last + short t) else true)
-    go true = says-as (ltb tick (t.last + short t)) (λ h _. h) (λ h. h refl) (ltb-says tick (t.last + short t))
+    go : (w : Bool) → Says (w ≡ true → tick < due t) (if w then ltb tick (due t) else true)
+    go true = says-as (ltb tick (due t)) (λ h _. h) (λ h. h refl) (ltb-says tick (due t))
     go false = λ e. not-both _ e
 
 pub shut-says : (s : State) → Says (Shut s.scale s.now s.tasks) (closedHolds s)
@@ -214,25 +217,26 @@ ceil-is s pos = if-by (Ceil s.scale s.now) (onTick s) (tick-says s)
 
 abbrev LimitOk : ℕ → ℕ → ℕ → Task → Type 0
 LimitOk scale now e t =
-    (Awake t → e ≤ t.last + short t)
-    × (¬ Awake t → (x : ℕ) → now ≤ x * scale → (t.arrived ≡ true → t.last + period t ≤ x) → e ≤ x + short t)
+    (Awake t → e ≤ due t)
+    × (¬ Awake t → (x : ℕ) → now ≤ x * scale → ((a : ℕ) → t.last ≡ some a → a + period t ≤ x) → e ≤ x + short t)
 
 limit-says : (scale now tick e : ℕ) → Ceil scale now tick → (t : Task) → Says (LimitOk scale now e t) (limitHolds tick e t)
 limit-says scale now tick e C t = go (isAwake t.cond)
   where
-    by : (a : Bool) → Says ((x : ℕ) → now ≤ x * scale → (a ≡ true → t.last + period t ≤ x) → e ≤ x + short t) (leb e ((if a then max tick (t.last + period t) else tick) + short t))
-    by true =
-        says-as (leb e (max tick (t.last + period t) + short t))
-        (λ h x hx f. omega (arith, C .first x hx, f refl))
-        (λ h. h (max tick (t.last + period t)) (let le : tick ≤ max tick (t.last + period t) = omega arith in omega (arith, C .reached, mul-le-mul-right scale le)) (λ _. omega arith))
-        (leb-says e (max tick (t.last + period t) + short t))
-    by false =
-        says-as (leb e (tick + short t)) (λ h x hx f. omega (arith, C .first x hx)) (λ h. h tick (C .reached) (λ q. not-both _ q)) (leb-says e (tick + short t))
+    by : (o : Option ℕ) → Says ((x : ℕ) → now ≤ x * scale → ((a : ℕ) → o ≡ some a → a + period t ≤ x) → e ≤ x + short t) (leb e ((elim o [ none ↦ tick | some a ↦ max tick (a + period t) ]) + short t))
+    by (some b) =
+        says-as (leb e (max tick (b + period t) + short t))
+        (λ h x hx f. omega (arith, C .first x hx, f b refl))
+        (λ h. h (max tick (b + period t)) (let le : tick ≤ max tick (b + period t) = omega arith in omega (arith, C .reached, mul-le-mul-right scale le))
+        (λ a q. let z = Option·some-injective b a q in omega arith))
+        (leb-says e (max tick (b + period t) + short t))
+    by none =
+        says-as (leb e (tick + short t)) (λ h x hx f. omega (arith, C .first x hx)) (λ h. h tick (C .reached) (λ a q. never q)) (leb-says e (tick + short t))
 
-    go : (w : Bool) → Says ((w ≡ true → e ≤ t.last + short t) × (¬ (w ≡ true) → (x : ℕ) → now ≤ x * scale → (t.arrived ≡ true → t.last + period t ≤ x) → e ≤ x + short t))
-        (if w then leb e (t.last + short t) else leb e (soonest tick t + short t))
-    go true = says-as (leb e (t.last + short t)) (λ h. ((λ _. h), λ n. absurd (n refl))) (λ h. h .0 refl) (leb-says e (t.last + short t))
-    go false = says-as (leb e (soonest tick t + short t)) (λ h. ((λ q. not-both _ q), λ _. h)) (λ h. h .1 (λ q. not-both ⊥ q)) (by t.arrived)
+    go : (w : Bool) → Says ((w ≡ true → e ≤ due t) × (¬ (w ≡ true) → (x : ℕ) → now ≤ x * scale → ((a : ℕ) → t.last ≡ some a → a + period t ≤ x) → e ≤ x + short t))
+        (if w then leb e (due t) else leb e (soonest tick t + short t))
+    go true = says-as (leb e (due t)) (λ h. ((λ _. h), λ n. absurd (n refl))) (λ h. h .0 refl) (leb-says e (due t))
+    go false = says-as (leb e (soonest tick t + short t)) (λ h. ((λ q. not-both _ q), λ _. h)) (λ h. h .1 (λ q. not-both ⊥ q)) (by t.last)
 
 pub going-says : (s : State) (e : ℕ) → 0 < s.scale → Says (Going s.m s.scale s.now e s.tasks) (openHolds s e)
 unfolding openHolds
@@ -286,3 +290,12 @@ holds-says s = go (tableHolds s) (table-says s)
 pub blank-never : holds blank ≡ false
 unfolding holds tableHolds
 blank-never = refl
+
+pub together-is : (s : State) → holds s ≡ true → Together s
+together-is s = of-true (holds s) (holds-says s)
+
+pub holds-is : (s : State) → Together s → holds s ≡ true
+holds-is s = is-true (holds s) (holds-says s)
+
+pub holds-as : {k r : State} → k ≡ r → Together r → holds k ≡ true
+holds-as {k} {r} e T = ap holds e ∙ holds-is r T

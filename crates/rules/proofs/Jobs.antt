@@ -1,7 +1,7 @@
 -- What is true of every job, after any calls
 use mathlib.Core.Path.{_≡_, refl, sym, _∙_, ap, subst}
 use mathlib.Core.Bool.{Bool, true, false, _&&_}
-use mathlib.Core.Option.{Option, none, some}
+use mathlib.Core.Option.{Option, none, some, Option·getD}
 use mathlib.Core.Logic.{_≢_, _⊎_, inl, inr}
 use mathlib.Core.List.{List, [], _∷_, _++_, map}
 use Prim.Native.Nat.{ℕ, suc, _+_, _*_, _-_, _/_, _≤_, _<_}
@@ -24,9 +24,9 @@ use Rattle.rules.specs.Reasons.{ArriveReason, StepReason, Comes}
 use Rattle.rules.specs.Record.{Record}
 use Rattle.rules.specs.Run.{Arrival, Call, arriveCall, stepCall, Run, perform, perform-all}
 use Rattle.rules.specs.Scale.{scaleOf}
-use Rattle.rules.specs.State.{Task, State, noRow, at, short, isAwake, runs, tickOf}
+use Rattle.rules.specs.State.{Task, State, noRow, at, short, isAwake, runs, tickOf, due, lastOf}
 use Rattle.rules.specs.Table.{Row, shorter}
-use Rattle.rules.specs.Together.{Awake, Shut, Together}
+use Rattle.rules.proofs.Together.{Awake, Shut, Together}
 use Rattle.rules.proofs.Arriving.{idle-is, arrives}
 use Rattle.rules.proofs.Books.{ran-past, ran-none, Books, wakes-books, arrives-books}
 use Rattle.rules.proofs.Ends.{end-next, ends-more, ends-last, end-kept, ends-kept, ends-kept-from, no-end-between, end-is}
@@ -38,15 +38,9 @@ use Rattle.rules.proofs.Reading.{record-read}
 use Rattle.rules.proofs.Refusing.{arrive-answers, step-answers}
 use Rattle.rules.proofs.Standing.{Facts, facts, row-at}
 use Rattle.rules.proofs.Serving.{endIn, Does, moving-does}
+use Rattle.rules.proofs.Lasts.{never, last-is, awake-last, awake-came}
 
 -- RUNS
--- the last arrival of a task, if it had one
-abbrev pub lastOf : Task → Option ℕ
-lastOf t = if t.arrived then some t.last else none
-
-last-same : (t u : Task) → t.arrived ≡ u.arrived → t.last ≡ u.last → lastOf t ≡ lastOf u
-last-same t u p q = rw (p, q)
-
 -- the state's plane is the one that the arrivals give: its k-th end lies behind it
 abbrev pub InPlane : List Row → Run → ℕ → Option ℕ → Type 0
 InPlane rows r k none = planeEnd rows r.arrivals k * scaleOf rows ≡ r.state.now
@@ -62,7 +56,7 @@ pub record Good (rows : List Row) (r : Run) : Type 0 where
   pub once : Once (r .records)
   pub follows : Follows 0 (r .records) (r .state .now)
   pub working : Working (scaleOf rows) rows (r .arrivals) (r .records)
-  pub latest : (j : ℕ) → j < length rows → (t : ℕ) → r .state .now ≤ t * scaleOf rows → cameBy (suc j) t (r .arrivals) ≡ lastOf (at j (r .state .tasks))
+  pub latest : (j : ℕ) → j < length rows → (t : ℕ) → r .state .now ≤ t * scaleOf rows → cameBy (suc j) t (r .arrivals) ≡ at j (r .state .tasks) .last
   pub plane : (k : ℕ) × InPlane rows r k (r .state .plane)
   pub seams : (k t : ℕ) → Reached rows r (suc k) t → EndsAt (t * scaleOf rows) (r .records)
   pub jobs : (x : Arrival) → In x (r .arrivals) → Jobs rows r x
@@ -88,12 +82,12 @@ came-in n t a (x ∷ xs) e = go (eqb x.task n) (eqb-says x.task n) (leb x.tick t
     go false q c z f = inr (f z)
 
 -- the limit that an arrival gives is the one that the task has
-limit-case : (q t a : ℕ) (came awake : Bool) → (awake ≡ true → came ≡ true) → (awake ≡ true → t < a + q) → (came ≡ true → t < a + q → awake ≡ true)
-    → limitBy q t (if came then some a else none) ≡ (if awake then a else t) + q
-limit-case q t a true true known due early = ap (λ b. if b then a + q else t + q) (is-true (ltb t (a + q)) (ltb-says t (a + q)) (due refl))
-limit-case q t a true false known due early = ap (λ b. if b then a + q else t + q) (is-false (ltb t (a + q)) (ltb-says t (a + q)) (λ lt. not-both ⊥ (early refl lt)))
-limit-case q t a false true known due early = not-both _ (known refl)
-limit-case q t a false false known due early = refl
+limit-case : (q t : ℕ) (o : Option ℕ) (awake : Bool) → (awake ≡ true → (a : ℕ) × (o ≡ some a)) → (awake ≡ true → t < Option·getD o 0 + q)
+    → ((a : ℕ) → o ≡ some a → t < a + q → awake ≡ true) → limitBy q t o ≡ (if awake then Option·getD o 0 + q else t + q)
+limit-case q t (some a) true known due early = ap (λ b. if b then a + q else t + q) (is-true (ltb t (a + q)) (ltb-says t (a + q)) (due refl))
+limit-case q t (some a) false known due early = ap (λ b. if b then a + q else t + q) (is-false (ltb t (a + q)) (ltb-says t (a + q)) (λ lt. not-both ⊥ (early a refl lt)))
+limit-case q t none true known due early = never (known refl .1)
+limit-case q t none false known due early = refl
 
 -- what the table of a good run gives
 module _ (rows : List Row) (r : Run) (G : Good rows r) where
@@ -126,7 +120,7 @@ module _ (rows : List Row) (r : Run) (G : Good rows r) where
   limit-is : (t : ℕ) → r .state .now ≡ t * scaleOf rows → r .state .plane ≡ none → (j : ℕ) → j < length rows
       → limitBy (short (at j (r .state .tasks))) t (cameBy (suc j) t (r .arrivals)) ≡ limit t (at j (r .state .tasks))
   limit-is t whole shut j hj =
-      rw (G .latest j hj t (omega arith)) (limit-case (short u) t (u .last) (u .arrived) (isAwake (u .cond)) (G .together .lasts .known j) due early)
+      rw (G .latest j hj t (omega arith)) (limit-case (short u) t (u .last) (isAwake (u .cond)) (G .together .lasts .known j) due′ early)
     where
       u : Task
       u = at j (r .state .tasks)
@@ -137,16 +131,16 @@ module _ (rows : List Row) (r : Run) (G : Good rows r) where
       tick-is : r .state .now / r .state .scale ≡ t
       tick-is = tick-of (r .state .now) (r .state .scale) t (F .scale-pos) (whole ∙ ap (λ l. t * l) (sym scale-is))
 
-      due : Awake (at j (r .state .tasks)) → t < at j (r .state .tasks) .last + short (at j (r .state .tasks))
-      due w = omega (arith, S .due j w, tick-is)
+      due′ : Awake (at j (r .state .tasks)) → t < due (at j (r .state .tasks))
+      due′ w = omega (arith, S .due j w, tick-is)
 
-      early : at j (r .state .tasks) .arrived ≡ true → t < at j (r .state .tasks) .last + short (at j (r .state .tasks)) → Awake (at j (r .state .tasks))
-      early a lt =
-          let here = came-in (suc j) t (u .last) (r .arrivals) (G .latest j hj t (omega arith) ∙ ap (λ b. if b then some (u .last) else none) a) in
-          let J = G .jobs (record { task = suc j; tick = u .last }) here .2 in
+      early : (a : ℕ) → at j (r .state .tasks) .last ≡ some a → t < a + short (at j (r .state .tasks)) → Awake (at j (r .state .tasks))
+      early a q lt =
+          let here = came-in (suc j) t a (r .arrivals) (G .latest j hj t (omega arith) ∙ q) in
+          let J = G .jobs (record { task = suc j; tick = a }) here .2 in
           let k : suc j - 1 ≡ j = omega arith in
-          let lt′ : t < u .last + shorter (getD rows (suc j - 1) noRow) = rw (k, ← row-is j) lt in
-          let lt″ : suc t ≤ u .last + shorter (getD rows (suc j - 1) noRow) = lt′ in
+          let lt′ : t < a + shorter (getD rows (suc j - 1) noRow) = rw (k, ← row-is j) lt in
+          let lt″ : suc t ≤ a + shorter (getD rows (suc j - 1) noRow) = lt′ in
           subst (λ i. Awake (at i (r .state .tasks))) k (J .awake (omega (arith, mul-le-mul-right (scaleOf rows) lt″, pos)) .0)
 
   -- the plane in which the next step runs
@@ -243,10 +237,10 @@ module _ (rows : List Row) (r : Run) (G : Good rows r) (h : ℕ) (room : List �
       u = at (n - 1) (r .state .tasks)
 
       Up : Type 0
-      Up = Awake (at (n - 1) (r .state .tasks)) × (at (n - 1) (r .state .tasks) .last ≡ a)
+      Up = Awake (at (n - 1) (r .state .tasks)) × (at (n - 1) (r .state .tasks) .last ≡ some a)
 
-      limit-same : Up → u .last + short u ≡ a + q
-      limit-same W = let x : short u ≡ q = ap shorter (row-is rows r G (n - 1)) in omega (arith, W .1)
+      limit-same : Up → due u ≡ a + q
+      limit-same W = let x : short u ≡ q = ap shorter (row-is rows r G (n - 1)) in omega (arith, last-is u (W .1))
 
       kept : (t : ℕ) → t * L ≤ r .state .now → ran n (a * L) (t * L) (made .records) ≡ ran n (a * L) (t * L) (r .records)
       kept t le = ran-past n (a * L) (t * L) (r .records) (moving (r .state) h .rec) (omega (arith, M .from-now))
@@ -262,9 +256,9 @@ module _ (rows : List Row) (r : Run) (G : Good rows r) (h : ℕ) (room : List �
       served W t te z =
           let i : suc (n - 1) ≡ n = omega arith in
           let x = D .exact (z ∙ ap (λ y. y * L) te) (n - 1) (W .0) in
-          ran-as (made .records) (sym i) (ap (λ y. y * L) (sym (W .1))) (sym z) ∙ x ∙ ap (λ y. at (n - 1) (r .state .tasks) .share * y) (length-is te (W .1))
+          ran-as (made .records) (sym i) (ap (λ y. y * L) (sym (last-is u (W .1)))) (sym z) ∙ x ∙ ap (λ y. at (n - 1) (r .state .tasks) .share * y) (length-is te (last-is u (W .1)))
 
-      awake : moving (r .state) h .state .now < (a + q) * L → Awake (at (n - 1) (moving (r .state) h .state .tasks)) × (at (n - 1) (moving (r .state) h .state .tasks) .last ≡ a)
+      awake : moving (r .state) h .state .now < (a + q) * L → Awake (at (n - 1) (moving (r .state) h .state .tasks)) × (at (n - 1) (moving (r .state) h .state .tasks) .last ≡ some a)
       awake lt =
           let W = J .awake (omega (arith, M .from-now, M .later, M .arrives)) in
           (D .stays (n - 1) (W .0) (omega (arith, M .arrives, ap (λ x. x * L) (limit-same W))), D .alike .last (n - 1) ∙ W .1)
@@ -297,13 +291,13 @@ module _ (rows : List Row) (r : Run) (G : Good rows r) (h : ℕ) (room : List �
   has-after j w =
       let aw = D .works j w in
       let u = at j (r .state .tasks) in
-      let known = G .together .lasts .known j aw in
-      let came : u .last * scaleOf rows ≤ r .state .now = omega (arith, G .together .lasts .came j known, ap (λ x. u .last * x) (scale-is rows r G)) in
+      let a = lastOf u in
+      let came : a * scaleOf rows ≤ r .state .now = omega (arith, awake-came (G .together .lasts) j aw, ap (λ x. a * x) (scale-is rows r G)) in
       let hj : j < length rows = omega (arith, size-is rows r G, inside (λ (t : Task). if isAwake (t .cond) then 1 else 0) (r .state .tasks) j refl (rw aw (omega arith))) in
       let t = suc (r .state .now) in
-      let here = came-in (suc j) t (u .last) (r .arrivals) (G .latest j hj t (far (r .state .now) (pos rows r G)) ∙ ap (λ b. if b then some (u .last) else none) known) in
-      let due : e ≤ u .last + shorter (getD rows j noRow) = omega (arith, D .due j aw, ap shorter (row-is rows r G j)) in
-      (u .last, here, omega (arith, came, M .from-now), omega (arith, up-to-end, mul-le-mul-right L due))
+      let here = came-in (suc j) t a (r .arrivals) (G .latest j hj t (far (r .state .now) (pos rows r G)) ∙ awake-last (G .together .lasts) j aw) in
+      let due : e ≤ a + shorter (getD rows j noRow) = omega (arith, D .due j aw, ap shorter (row-is rows r G j)) in
+      (a, here, omega (arith, came, M .from-now), omega (arith, up-to-end, mul-le-mul-right L due))
     where
       far : (n : ℕ) → 0 < scaleOf rows → n ≤ suc n * scaleOf rows
       far n p = let p′ : 1 ≤ scaleOf rows = p in omega (arith, native.Mathlib.Nat.mul-le-mul-left (suc n) p′)
@@ -336,7 +330,7 @@ module _ (rows : List Row) (r : Run) (G : Good rows r) (h : ℕ) (room : List �
         once = once-more (r .records) (x .rec) (G .once) (D .once);
         follows = rw (M .arrives) (follows-more 0 (s .now) (r .records) (x .rec) (G .follows) (M .from-now) (M .later));
         working = working-more (scaleOf rows) rows (r .arrivals) (r .records) (x .rec) (G .working) has-after;
-        latest = λ j hj t le. G .latest j hj t (omega (arith, M .from-now, M .later, M .arrives)) ∙ sym (last-same (at j (x .state .tasks)) (at j s.tasks) (A .arrived j) (A .last j));
+        latest = λ j hj t le. G .latest j hj t (omega (arith, M .from-now, M .later, M .arrives)) ∙ sym (A .last j);
         plane = plane-after;
         seams = seams-after;
         jobs = λ y i. let J = G .jobs y i in (J .0, J .1, job-after y.task y.tick (J .0) (J .1) (J .2));
@@ -371,7 +365,7 @@ not-soon : {a b : ℕ} → ¬ (a < b) → b ≤ a
 not-soon n = omega arith
 
 pub done-comes : (s : State) (task : ℕ) → ArriveReason s task Done → Comes s (task - 1)
-done-comes s task R = record { known = omega (arith, R .1); whole = R .2; late = λ a. not-soon (λ c. R .3 (a, c)) }
+done-comes s task R = record { known = omega (arith, R .1); whole = R .2; late = λ a e. not-soon (λ c. R .3 (a, e, c)) }
 
 -- the latest arrival, with one more at the present
 came-now : (n t : ℕ) (x : Arrival) (xs : List Arrival) → x.task ≡ n → x.tick ≤ t → cameBy n t (x ∷ xs) ≡ some x.tick
@@ -420,8 +414,8 @@ module _ (rows : List Row) (r : Run) (G : Good rows r) (task : ℕ) (R : ArriveR
     whole = λ le. J .whole (omega (arith, le, same-now));
   }
     where
-      awake-still : Awake (at (n - 1) (r .state .tasks)) × (at (n - 1) (r .state .tasks) .last ≡ a)
-          → Awake (at (n - 1) (came .state .tasks)) × (at (n - 1) (came .state .tasks) .last ≡ a)
+      awake-still : Awake (at (n - 1) (r .state .tasks)) × (at (n - 1) (r .state .tasks) .last ≡ some a)
+          → Awake (at (n - 1) (came .state .tasks)) × (at (n - 1) (came .state .tasks) .last ≡ some a)
       awake-still W =
           let other : n - 1 ≢ task - 1 = λ q. not-both ⊥ (sym (ap isAwake (comes-asleep (r .state) (task - 1) (G .together) C)) ∙ subst (λ i. Awake (at i (r .state .tasks))) q (W .0)) in
           let c = T .others (n - 1) other in
@@ -439,20 +433,17 @@ module _ (rows : List Row) (r : Run) (G : Good rows r) (task : ℕ) (R : ArriveR
         absurd (omega (arith, some-q rows r G (task - 1) (omega (arith, C .known, size-is rows r G))));
   }
 
-  latest-now : (j : ℕ) → j < length rows → (t : ℕ) → r .state .now ≤ t * scaleOf rows → cameBy (suc j) t (this ∷ r .arrivals) ≡ lastOf (at j (came .state .tasks))
+  latest-now : (j : ℕ) → j < length rows → (t : ℕ) → r .state .now ≤ t * scaleOf rows → cameBy (suc j) t (this ∷ r .arrivals) ≡ at j (came .state .tasks) .last
   latest-now j hj t le = go (ℕ-discrete j (task - 1))
     where
-      some-last : (u : Task) (b : ℕ) → u.arrived ≡ true → u.last ≡ b → lastOf u ≡ some b
-      some-last u b p q = rw (p, q)
-
-      go : Dec (j ≡ task - 1) → cameBy (suc j) t (this ∷ r .arrivals) ≡ lastOf (at j (came .state .tasks))
+      go : Dec (j ≡ task - 1) → cameBy (suc j) t (this ∷ r .arrivals) ≡ at j (came .state .tasks) .last
       go (yes q) =
           came-now (suc j) t this (r .arrivals) (omega (arith, R .1, q)) (le-of-mul-le-mul-right (omega (arith, whole-tick)) (pos rows r G))
-          ∙ sym (subst (λ i. lastOf (at i (came .state .tasks)) ≡ some (tickOf (r .state))) (sym q) (some-last (at (task - 1) (came .state .tasks)) (tickOf (r .state)) (T .arrived) (T .last)))
+          ∙ sym (subst (λ i. at i (came .state .tasks) .last ≡ some (tickOf (r .state))) (sym q) (T .last))
       go (no n) =
           let c = T .others j n in
           came-other (suc j) t this (r .arrivals) (λ q. n (omega arith)) ∙ G .latest j hj t le
-          ∙ sym (last-same (at j (came .state .tasks)) (at j (r .state .tasks)) (ap (λ (x : Core). x .arrived) c) (ap (λ (x : Core). x .last) c))
+          ∙ sym (ap (λ (x : Core). x .last) c)
 
   plane-now : (k : ℕ) × InPlane rows came k (r .state .plane)
   plane-now = go (r .state .plane) (G .plane)
@@ -505,6 +496,10 @@ by-answer P HorizonNotLater f g = g refl
 by-answer P RoomTooShort f g = g refl
 by-answer P NotTogether f g = g refl
 by-answer P TextForm f g = g refl
+
+-- the answer 0
+pub done-is : (a : Answer) → isDone a ≡ true → a ≡ Done
+done-is a d = by-answer _ a (λ e. e) (λ f. not-both _ (sym f ∙ d))
 
 pub perform-good : (rows : List Row) (r : Run) (c : Call) → Good rows r → Good rows (perform r c)
 perform-good rows r (arriveCall task) G =

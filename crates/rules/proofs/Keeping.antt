@@ -13,11 +13,12 @@ use Rattle.ground.specs.Tests.{if_then_else_, Says}
 use Rattle.ground.proofs.Sums.{sumOf-none, sumOf-places}
 use Rattle.ground.proofs.Tests.{eqb-says, is-false}
 use Rattle.rules.specs.Events.{spend, advance, events}
-use Rattle.rules.specs.Planes.{limit, endOf, openTasks, closeCond, closeTask, closed}
+use Rattle.rules.specs.Planes.{limit, endOf, openTasks, closeTask, closed}
 use Rattle.rules.specs.Scale.{scaleOf}
-use Rattle.rules.specs.State.{running, Cond, asleep, resting, waiting, Task, nobody, at, short, be, isAwake, procOf, runsOf, waitsOf, onOf, runs, waits, on}
+use Rattle.rules.specs.State.{running, Cond, asleep, resting, waiting, Task, nobody, at, short, be, due, isAwake, runs, waits, on}
 use Rattle.rules.specs.Table.{Row, shorter}
-use Rattle.rules.specs.Together.{Awake, Table, Seats, Lasts, Shut, Going}
+use Rattle.rules.proofs.Together.{Awake, Table, Seats, Lasts, Shut, Going}
+use Rattle.rules.proofs.Cases.{procOf, runsOf, waitsOf, onOf}
 use Rattle.rules.proofs.Events.{Stands, Core, core, Kept, events-ok}
 use Rattle.rules.proofs.Opening.{ready, opens}
 use Rattle.rules.proofs.Standing.{facts, awake-inside, going-stands, shut-closed}
@@ -28,7 +29,6 @@ pub record Alike (l k : List Task) : Type 0 where
   pub size : length k ≡ length l
   pub row : (j : ℕ) → at j k .row ≡ at j l .row
   pub share : (j : ℕ) → at j k .share ≡ at j l .share
-  pub arrived : (j : ℕ) → at j k .arrived ≡ at j l .arrived
   pub last : (j : ℕ) → at j k .last ≡ at j l .last
   pub awake : (j : ℕ) → Awake (at j k) → Awake (at j l)
 
@@ -37,7 +37,6 @@ kept-alike {l} {k} K = record {
   size = K .size;
   row = λ j. ap (λ (c : Core). c .row) (K .same j);
   share = λ j. ap (λ (c : Core). c .share) (K .same j);
-  arrived = λ j. ap (λ (c : Core). c .arrived) (K .same j);
   last = λ j. ap (λ (c : Core). c .last) (K .same j);
   awake = λ j w. sym (ap (λ (c : Core). c .awake) (K .same j)) ∙ w;
 }
@@ -47,7 +46,6 @@ alike-trans a b = record {
   size = b .size ∙ a .size;
   row = λ j. b .row j ∙ a .row j;
   share = λ j. b .share j ∙ a .share j;
-  arrived = λ j. b .arrived j ∙ a .arrived j;
   last = λ j. b .last j ∙ a .last j;
   awake = λ j w. a .awake j (b .awake j w);
 }
@@ -73,8 +71,8 @@ table-kept {m} {scale} {l} {k} n r s T = record {
 
 pub lasts-kept : {scale now now′ : ℕ} {l k : List Task} → Alike l k → now ≤ now′ → Lasts scale now l → Lasts scale now′ k
 lasts-kept {scale} A h L = record {
-  known = λ j w. A .arrived j ∙ L .known j (A .awake j w);
-  came = λ j a. rw (A .last j) (omega (arith, L .came j (sym (A .arrived j) ∙ a)));
+  known = λ j w. let k = L .known j (A .awake j w) in (k .0, A .last j ∙ k .1);
+  came = λ j a e. omega (arith, L .came j a (sym (A .last j) ∙ e));
 }
 
 short-kept : {l k : List Task} → Alike l k → (j : ℕ) → short (at j k) ≡ short (at j l)
@@ -103,7 +101,6 @@ module _ {m scale now e : ℕ} (l : List Task) (P : Running m scale now e l) (to
     size = length-advance d l;
     row = λ j. ap (λ (t : Task). t .row) (at-advance d j l);
     share = λ j. ap (λ (t : Task). t .share) (at-advance d j l);
-    arrived = λ j. ap (λ (t : Task). t .arrived) (at-advance d j l);
     last = λ j. ap (λ (t : Task). t .last) (at-advance d j l);
     awake = λ j w. sym (ap (λ (t : Task). isAwake (t .cond)) (at-advance d j l) ∙ still-awake d (at j l .cond)) ∙ w;
   }
@@ -139,7 +136,7 @@ module _ {m scale now e : ℕ} (l : List Task) (P : Running m scale now e l) (to
             total = S .fits .total;
             due = λ j w. rw (K .last j, K .row j) (P .going .due j (K .awake j w));
             free = λ j hj w t ht a. rw (K .row j)
-                (P .going .free j (omega (arith, K .size)) (λ v. w (still j v)) t (omega arith) (λ b. omega (arith, a (K .arrived j ∙ b), K .last j, ap (λ (r : Row). r .period) (K .row j))));
+                (P .going .free j (omega (arith, K .size)) (λ v. w (still j v)) t (omega arith) (λ b q. omega (arith, a b (K .last j ∙ q), ap (λ (r : Row). r .period) (K .row j))));
           };
         };
         alike = K;
@@ -147,18 +144,18 @@ module _ {m scale now e : ℕ} (l : List Task) (P : Running m scale now e l) (to
       }
 
 -- CLOSING
-pub close-by : (e : ℕ) (P : Task → Type 0) (t : Task) → P (be asleep t) → (Awake t → t.last + short t ≢ e → P (be resting t)) → P (closeTask e t)
+pub close-by : (e : ℕ) (P : Task → Type 0) (t : Task) → P (be asleep t) → (Awake t → due t ≢ e → P (be resting t)) → P (closeTask e t)
 close-by e P t p q = go t.cond q
   where
-    each : (b : Bool) → Says (t.last + short t ≡ e) b → (t.last + short t ≢ e → P (be resting t)) → P (be (closeCond b) t)
+    each : (b : Bool) → Says (due t ≡ e) b → (due t ≢ e → P (be resting t)) → P (be (if b then asleep else resting) t)
     each true h q = p
     each false h q = q h
 
-    go : (c : Cond) → (isAwake c ≡ true → t.last + short t ≢ e → P (be resting t)) → P (if isAwake c then be (closeCond (eqb (t.last + short t) e)) t else be c t)
+    go : (c : Cond) → (isAwake c ≡ true → due t ≢ e → P (be resting t)) → P (if isAwake c then be (if eqb (due t) e then asleep else resting) t else be c t)
     go asleep q = p
-    go resting q = each (eqb (t.last + short t) e) (eqb-says (t.last + short t) e) (q refl)
-    go (running p a) q = each (eqb (t.last + short t) e) (eqb-says (t.last + short t) e) (q refl)
-    go (waiting a) q = each (eqb (t.last + short t) e) (eqb-says (t.last + short t) e) (q refl)
+    go resting q = each (eqb (due t) e) (eqb-says (due t) e) (q refl)
+    go (running p a) q = each (eqb (due t) e) (eqb-says (due t) e) (q refl)
+    go (waiting a) q = each (eqb (due t) e) (eqb-says (due t) e) (q refl)
 
 pub at-closed : (d e j : ℕ) (l : List Task) → at j (closed e (advance d l)) ≡ closeTask e (be (spend d (at j l .cond)) (at j l))
 unfolding closed
@@ -202,14 +199,13 @@ closes-alike d e l =
       size = length-map (advance d l) (closeTask e) ∙ length-advance d l;
       row = λ j. rw (at-closed d e j l) (close-by e (λ u. u.row ≡ at j l .row) (t j) refl (λ _ _. refl));
       share = λ j. rw (at-closed d e j l) (close-by e (λ u. u.share ≡ at j l .share) (t j) refl (λ _ _. refl));
-      arrived = λ j. rw (at-closed d e j l) (close-by e (λ u. u.arrived ≡ at j l .arrived) (t j) refl (λ _ _. refl));
       last = λ j. rw (at-closed d e j l) (close-by e (λ u. u.last ≡ at j l .last) (t j) refl (λ _ _. refl));
       awake = λ j. rw (at-closed d e j l) (close-by e (λ u. Awake u → Awake (at j l)) (t j) (not-both _) (λ w _ _. sym (still-awake d (at j l .cond)) ∙ w));
     }
 
 -- a task that is awake and not due stays awake
-pub close-stays : (e : ℕ) (t : Task) → Awake t → t.last + short t ≢ e → Awake (closeTask e t)
-close-stays e t w n = rw (w, is-false (eqb (t.last + short t) e) (eqb-says (t.last + short t) e) n) refl
+pub close-stays : (e : ℕ) (t : Task) → Awake t → due t ≢ e → Awake (closeTask e t)
+close-stays e t w n = rw (w, is-false (eqb (due t) e) (eqb-says (due t) e) n) refl
 
 pub closes : {m scale now e : ℕ} (l : List Task) → Running m scale now e l → Resting m scale (e * scale) (closed e (advance (e * scale - now) l))
 unfolding closed
@@ -229,7 +225,7 @@ closes {m} {scale} {now} {e} l P =
         whole = rw tick;
         idle = idle;
         due = λ j. rw (tick, at-closed d e j l)
-            (close-by e (λ u. Awake u → e < u.last + short u) (t j) (not-both _) (λ w n _. omega (arith, P .going .due j (sym (still-awake d (at j l .cond)) ∙ w))));
+            (close-by e (λ u. Awake u → e < due u) (t j) (not-both _) (λ w n _. omega (arith, P .going .due j (sym (still-awake d (at j l .cond)) ∙ w))));
       };
     }
 
@@ -249,10 +245,10 @@ end-above tick (t ∷ []) x h f = f 0 (omega arith)
 end-above tick (t ∷ u ∷ l) x h f = omega (arith, f 0 (omega arith), end-above tick (u ∷ l) x (omega arith) (λ j hj. f (suc j) (omega arith)))
 
 -- a task's limit, by whether it is awake
-limit-by : (P : ℕ → Type 0) (tick : ℕ) (t : Task) → (Awake t → P (t.last + short t)) → (¬ Awake t → P (tick + short t)) → P (limit tick t)
+limit-by : (P : ℕ → Type 0) (tick : ℕ) (t : Task) → (Awake t → P (due t)) → (¬ Awake t → P (tick + short t)) → P (limit tick t)
 limit-by P tick t f g = go (isAwake t.cond) f g
   where
-    go : (b : Bool) → (b ≡ true → P (t.last + short t)) → (¬ (b ≡ true) → P (tick + short t)) → P ((if b then t.last else tick) + short t)
+    go : (b : Bool) → (b ≡ true → P (due t)) → (¬ (b ≡ true) → P (tick + short t)) → P (if b then due t else tick + short t)
     go true f g = f refl
     go false f g = g (λ e. not-both ⊥ e)
 
@@ -310,7 +306,6 @@ module _ {m scale now : ℕ} (l : List Task) (P : Resting m scale now l) where
         size = O .size;
         row = row;
         share = share;
-        arrived = λ j. ap (λ (c : Core). c .arrived) (O .same j) ∙ ready-by len (λ u. u.arrived ≡ at j l .arrived) (at j l) refl refl;
         last = λ j. ap (λ (c : Core). c .last) (O .same j) ∙ ready-by len (λ u. u.last ≡ at j l .last) (at j l) refl refl;
         awake = λ j w. sym (awake j) ∙ w;
       } in
@@ -327,7 +322,7 @@ module _ {m scale now : ℕ} (l : List Task) (P : Resting m scale now l) where
             busy = λ w. omega (arith, S .fits .busy w);
             total = S .fits .total;
             due = λ j w. rw (K .last j, K .row j)
-                (let v = K .awake j w in omega (arith, end-le tick l j (awake-inside l j v), limit-by (λ n. n ≡ at j l .last + short (at j l)) tick (at j l) (λ _. refl) (λ n. absurd (n v))));
+                (let v = K .awake j w in omega (arith, end-le tick l j (awake-inside l j v), limit-by (λ n. n ≡ due (at j l)) tick (at j l) (λ _. refl) (λ n. absurd (n v))));
             free = λ j hj w t ht a. rw (K .row j)
                 (let le : tick ≤ t = le-of-mul-le-mul-right (omega arith) (F .scale-pos) in
                 omega (arith, end-le tick l j (omega (arith, K .size)), limit-by (λ n. n ≡ tick + short (at j l)) tick (at j l) (λ v. absurd (w (awake j ∙ v))) (λ _. refl)));

@@ -1,8 +1,10 @@
+pub mod Computed
 pub mod AddUp
 pub mod Figures
 pub mod Euclid
 pub mod Scale
 pub mod Falling
+pub mod Cases
 pub mod Slope
 pub mod Places
 pub mod Plane
@@ -11,6 +13,8 @@ pub mod Time
 pub mod Slots
 pub mod Opening
 pub mod Standing
+pub mod Together
+pub mod Lasts
 pub mod Keeping
 pub mod Arriving
 pub mod Calls

@@ -16,7 +16,8 @@ use Rattle.ground.proofs.Tests.{ltb-says, if-by}
 use Rattle.ground.proofs.Times.{same-yes, same-no, times-place, by-same, times-cons}
 use Rattle.rules.specs.Planes.{falling, sharesOf, enterAs, enter, openTasks}
 use Rattle.rules.specs.Scale.{fits}
-use Rattle.rules.specs.State.{Cond, asleep, resting, running, waiting, Task, nobody, at, be, become, isAwake, amountOf, procOf, runsOf, waitsOf, onOf, amount, proc, runs, waits, on, awakeShare}
+use Rattle.rules.specs.State.{Cond, asleep, resting, running, waiting, Task, nobody, at, be, become, isAwake, amount, proc, runs, waits, on, awakeShare}
+use Rattle.rules.proofs.Cases.{amountOf, procOf, runsOf, waitsOf, onOf}
 use Rattle.rules.proofs.Events.{Stands, Core, coreIn, core}
 use Rattle.rules.proofs.Falling.{Ahead, Below, Falls, ahead-asym, falling-below, falling-falls, falling-once}
 use Rattle.rules.proofs.Places.{at-same, at-other, length-become, sum-become, all-become, inside}
@@ -423,7 +424,7 @@ module _ (m len scale : ℕ) (hl : 0 < len) (hs : 0 < scale) (l : List Task) (C 
           go (no h) = absurd (crowded (mul-le-mul hl hs) hs x k (inside waits k x refl (omega (arith, ap waitsOf e))) (rw ea e) fits (omega (arith, ea))
               (λ y. heavier x (ap waitsOf e) (omega (arith, ea)) y (at y k .cond) refl))
 
-  -- "In falling order of share the first m run; the rest wait": the plane stands
+  -- in falling order of share the first m run and the rest wait: the plane stands
   pub opens : Opened (openTasks m len l)
   unfolding openTasks
   opens =

@@ -14,9 +14,9 @@ use Rattle.ground.specs.Sums.{sumOf}
 use Rattle.ground.specs.Tests.{if_then_else_, Says}
 use Rattle.ground.proofs.Sums.{sumOf-mono, sumOf-at, sumOf-scale, sumOf-none}
 use Rattle.ground.proofs.Tests.{eqb-says}
-use Rattle.rules.specs.Events.{giveTo, takeFrom}
-use Rattle.rules.specs.Keys.{runKeyOf, waitKeyOf, runKey, waitKey, Best, nope, best}
-use Rattle.rules.specs.State.{Cond, asleep, resting, running, waiting, Task, nobody, at, become, isAwake, amountOf, procOf, runsOf, waitsOf, onOf, amount, proc, runs, waits, on, awakeShare}
+use Rattle.rules.specs.Keys.{runKey, waitKey, Best, nope, best}
+use Rattle.rules.specs.State.{Cond, asleep, resting, running, waiting, Task, nobody, at, become, isAwake, amount, proc, runs, waits, on, awakeShare}
+use Rattle.rules.proofs.Cases.{amountOf, procOf, runsOf, waitsOf, onOf, runKeyOf, waitKeyOf, giveTo, takeFrom}
 use Rattle.rules.proofs.Places.{at-same, length-become, sum-become, all-become, sum-two, one-two, IsLeast}
 
 -- c processors were just freed and not yet given on
@@ -67,7 +67,6 @@ on-self p false e = absurd (e refl)
 module _ {c m scale R : ℕ} where
   pub give-ok : (end p : ℕ) (l : List Task) → Fits (suc c) m scale R l → 0 < p → p ≤ m → sumOf (on p) l ≡ 0
       → (b : Best) → IsLeast (waitKey end) l b → Fits c m scale R (giveTo p l b)
-  unfolding giveTo
   give-ok end p l F hp hm free nope h =
       let w : sumOf waits l ≡ 0 = sumOf-none waits nobody l (λ j hj. not-waiting end (at j l .cond) (h j)) in
       record {
@@ -178,7 +177,6 @@ module _ {m scale R : ℕ} (hR : 0 < R) (hs : 0 < scale) where
       → (b : Best) → IsLeast (runKey now) l b
       → Fits 0 m scale R (takeFrom i l b) × Alive (takeFrom i l b) × (waits (at i (takeFrom i l b)) ≡ 0)
       × ((j : ℕ) → amount (at j l) + waits (at j l) ≤ R → amount (at j (takeFrom i l b)) + waits (at j (takeFrom i l b)) ≤ R)
-  unfolding takeFrom
   seize-ok now i l hi e h F A nope L =
       absurd (crowded i l hi e F h (λ j. let z : runs (at j l) ≡ 0 = not-running now (at j l .cond) (L j) in rw z (omega arith)))
   seize-ok now i l hi e h F A (best j k) L =

@@ -1,6 +1,6 @@
 -- Each call gives each answer exactly when document 01 says so
 use mathlib.Core.Path.{_≡_, refl, _∙_, ap}
-use mathlib.Core.Bool.{Bool, true, false, not, _&&_}
+use mathlib.Core.Bool.{Bool, true, false, not}
 use mathlib.Core.List.{List, [], _∷_}
 use Prim.Native.Nat.{ℕ, zero, suc, _+_, _*_, _-_, _%_, _≤_, _<_}
 use native.Mathlib.Nat.{div-add-mod'}
@@ -21,10 +21,10 @@ use Rattle.rules.specs.Reasons.{ProcessorsOk, LengthOk, RowInRange, RowO
 use Rattle.rules.specs.Scale.{scaleOf, shareOf, fits}
 use Rattle.rules.specs.State.{Task, State, noRow, at, period, tickOf, onTick}
 use Rattle.rules.specs.Table.{Row, rowsOf, shorter, rowInRange}
-use Rattle.rules.specs.Together.{Together}
 use Rattle.rules.proofs.Admitting.{row-says}
-use Rattle.rules.proofs.Holding.{processors-says, holds-says}
-use Rattle.rules.proofs.Keeping.{not-both}
+use Rattle.rules.proofs.Holding.{processors-says}
+use Rattle.rules.proofs.Lasts.{never}
+use mathlib.Core.Option.{Option, none, some, Option·some-injective}
 
 -- ARRIVE
 known-says : (s : State) (task : ℕ) → Says (TaskKnown s task) (taskKnown s task)
@@ -34,19 +34,20 @@ on-tick-says : (s : State) → Says (OnTick s) (onTick s)
 on-tick-says s = says-as (onTick s) (λ h. omega (arith, div-add-mod' s.now s.scale)) (λ h. omega (arith, div-add-mod' s.now s.scale)) (eqb-says (s.now % s.scale) 0)
 
 soon-says : (s : State) (t : Task) → Says (Soon s t) (tooSoon (tickOf s) t)
-soon-says s t = go t.arrived
+soon-says s t = go t.last
   where
-    go : (a : Bool) → Says ((a ≡ true) × (tickOf s < t.last + period t)) (a && ltb (tickOf s) (t.last + period t))
-    go true = says-as (ltb (tickOf s) (t.last + period t)) (λ h. (refl, h)) (λ h. h .1) (ltb-says (tickOf s) (t.last + period t))
-    go false = λ h. not-both ⊥ (h .0)
+    go : (o : Option ℕ) → Says ((a : ℕ) × (o ≡ some a) × (tickOf s < a + period t)) (elim o [ none ↦ false | some a ↦ ltb (tickOf s) (a + period t) ])
+    go (some b) =
+        says-as (ltb (tickOf s) (b + period t)) (λ h. (b, refl, h)) (λ h. let z = Option·some-injective b (h .0) (h .1) in omega (arith, h .2)) (ltb-says (tickOf s) (b + period t))
+    go none = λ h. never (h .1)
 
 pub arrive-answers : (s : State) (task : ℕ) → ArriveReason s task (arriveAnswer s task)
 unfolding arriveAnswer
 arrive-answers s task =
     let t = at (task - 1) s.tasks in
-    go (holds s) (holds-says s) (taskKnown s task) (known-says s task) (onTick s) (on-tick-says s) (tooSoon (tickOf s) t) (soon-says s t)
+    go (holds s) refl (taskKnown s task) (known-says s task) (onTick s) (on-tick-says s) (tooSoon (tickOf s) t) (soon-says s t)
   where
-    go : (a : Bool) → Says (Together s) a → (b : Bool) → Says (TaskKnown s task) b → (c : Bool) → Says (OnTick s) c → (d : Bool) → Says (Soon s (at (task - 1) s.tasks)) d
+    go : (a : Bool) → holds s ≡ a → (b : Bool) → Says (TaskKnown s task) b → (c : Bool) → Says (OnTick s) c → (d : Bool) → Says (Soon s (at (task - 1) s.tasks)) d
         → ArriveReason s task (if not a then NotTogether else (if not b then TaskNumber else (if not c then BetweenTicks else (if d then TooSoon else Done))))
     go false p b q c r d u = p
     go true p false q c r d u = (p, q)
@@ -58,9 +59,9 @@ arrive-answers s task =
 pub step-answers : (s : State) (horizon room : ℕ) → StepReason s horizon room (stepAnswer s horizon room)
 unfolding stepAnswer
 step-answers s h n =
-    go (holds s) (holds-says s) (ltb n 48) (ltb-says n 48) (ltb clock h) (ltb-says clock h) (leb (h * s.scale) s.now) (leb-says (h * s.scale) s.now)
+    go (holds s) refl (ltb n 48) (ltb-says n 48) (ltb clock h) (ltb-says clock h) (leb (h * s.scale) s.now) (leb-says (h * s.scale) s.now)
   where
-    go : (a : Bool) → Says (Together s) a → (b : Bool) → Says (n < 48) b → (c : Bool) → Says (clock < h) c → (d : Bool) → Says (h * s.scale ≤ s.now) d
+    go : (a : Bool) → holds s ≡ a → (b : Bool) → Says (n < 48) b → (c : Bool) → Says (clock < h) c → (d : Bool) → Says (h * s.scale ≤ s.now) d
         → StepReason s h n (if not a then NotTogether else (if b then RoomTooShort else (if c then HorizonPastClock else (if d then HorizonNotLater else Done))))
     go false p b q c r d u = p
     go true p true q c r d u = (p, q)
@@ -309,16 +310,16 @@ admit-exact bytes m TextForm i h = absurd h
 
 pub arrive-exact : (s : State) (task : ℕ) (a : Answer) → ArriveReason s task a → arriveAnswer s task ≡ a
 unfolding arriveAnswer
-arrive-exact s task NotTogether h = rw (is-false (holds s) (holds-says s) h)
-arrive-exact s task TaskNumber h = rw (is-true (holds s) (holds-says s) (h .0), is-false (taskKnown s task) (known-says s task) (h .1))
+arrive-exact s task NotTogether h = rw h
+arrive-exact s task TaskNumber h = rw (h .0, is-false (taskKnown s task) (known-says s task) (h .1))
 arrive-exact s task BetweenTicks h =
-    rw (is-true (holds s) (holds-says s) (h .0), is-true (taskKnown s task) (known-says s task) (h .1), is-false (onTick s) (on-tick-says s) (h .2))
+    rw (h .0, is-true (taskKnown s task) (known-says s task) (h .1), is-false (onTick s) (on-tick-says s) (h .2))
 arrive-exact s task TooSoon h =
     let t = at (task - 1) s.tasks in
-    rw (is-true (holds s) (holds-says s) (h .0), is-true (taskKnown s task) (known-says s task) (h .1), is-true (onTick s) (on-tick-says s) (h .2), is-true (tooSoon (tickOf s) t) (soon-says s t) (h .3))
+    rw (h .0, is-true (taskKnown s task) (known-says s task) (h .1), is-true (onTick s) (on-tick-says s) (h .2), is-true (tooSoon (tickOf s) t) (soon-says s t) (h .3))
 arrive-exact s task Done h =
     let t = at (task - 1) s.tasks in
-    rw (is-true (holds s) (holds-says s) (h .0), is-true (taskKnown s task) (known-says s task) (h .1), is-true (onTick s) (on-tick-says s) (h .2), is-false (tooSoon (tickOf s) t) (soon-says s t) (h .3))
+    rw (h .0, is-true (taskKnown s task) (known-says s task) (h .1), is-true (onTick s) (on-tick-says s) (h .2), is-false (tooSoon (tickOf s) t) (soon-says s t) (h .3))
 arrive-exact s task Processors h = absurd h
 arrive-exact s task TableLength h = absurd h
 arrive-exact s task RowRange h = absurd h
@@ -332,14 +333,14 @@ arrive-exact s task TextForm h = absurd h
 
 pub step-exact : (s : State) (horizon room : ℕ) (a : Answer) → StepReason s horizon room a → stepAnswer s horizon room ≡ a
 unfolding stepAnswer
-step-exact s h n NotTogether p = rw (is-false (holds s) (holds-says s) p)
-step-exact s h n RoomTooShort p = rw (is-true (holds s) (holds-says s) (p .0), is-true (ltb n 48) (ltb-says n 48) (p .1))
+step-exact s h n NotTogether p = rw p
+step-exact s h n RoomTooShort p = rw (p .0, is-true (ltb n 48) (ltb-says n 48) (p .1))
 step-exact s h n HorizonPastClock p =
-    rw (is-true (holds s) (holds-says s) (p .0), is-false (ltb n 48) (ltb-says n 48) (λ q. omega (arith, p .1)), is-true (ltb clock h) (ltb-says clock h) (p .2))
+    rw (p .0, is-false (ltb n 48) (ltb-says n 48) (λ q. omega (arith, p .1)), is-true (ltb clock h) (ltb-says clock h) (p .2))
 step-exact s h n HorizonNotLater p =
-    rw (is-true (holds s) (holds-says s) (p .0), is-false (ltb n 48) (ltb-says n 48) (λ q. omega (arith, p .1)), is-false (ltb clock h) (ltb-says clock h) (λ q. omega (arith, p .2)), is-true (leb (h * s.scale) s.now) (leb-says (h * s.scale) s.now) (p .3))
+    rw (p .0, is-false (ltb n 48) (ltb-says n 48) (λ q. omega (arith, p .1)), is-false (ltb clock h) (ltb-says clock h) (λ q. omega (arith, p .2)), is-true (leb (h * s.scale) s.now) (leb-says (h * s.scale) s.now) (p .3))
 step-exact s h n Done p =
-    rw (is-true (holds s) (holds-says s) (p .0), is-false (ltb n 48) (ltb-says n 48) (λ q. omega (arith, p .1)), is-false (ltb clock h) (ltb-says clock h) (λ q. omega (arith, p .2)), is-false (leb (h * s.scale) s.now) (leb-says (h * s.scale) s.now) (λ q. omega (arith, p .3)))
+    rw (p .0, is-false (ltb n 48) (ltb-says n 48) (λ q. omega (arith, p .1)), is-false (ltb clock h) (ltb-says clock h) (λ q. omega (arith, p .2)), is-false (leb (h * s.scale) s.now) (leb-says (h * s.scale) s.now) (λ q. omega (arith, p .3)))
 step-exact s h n Processors p = absurd p
 step-exact s h n TableLength p = absurd p
 step-exact s h n RowRange p = absurd p

@@ -16,13 +16,14 @@ use Rattle.ground.specs.Tests.{Says}
 use Rattle.ground.proofs.Tests.{eqb-says, if-by}
 use Rattle.ground.proofs.Times.{up-length}
 use Rattle.rules.specs.Bounds.{clock, mostScale}
-use Rattle.rules.specs.Calls.{Moved, after, moveTo, moveIn, moving, step}
+use Rattle.rules.specs.Calls.{Moved, after, moving, step}
 use Rattle.rules.specs.History.{ran, Follows}
 use Rattle.rules.specs.Events.{spend, nextAt}
-use Rattle.rules.specs.Planes.{endOf, openTasks, openAt, openCase, opened}
+use Rattle.rules.specs.Planes.{endOf, openTasks, opened}
 use Rattle.rules.specs.Record.{Record, onProc, slotsOf}
-use Rattle.rules.specs.State.{resting, waiting, Cond, asleep, running, Task, State, at, isAwake, be, short, runsOf, proc, runs, tickOf}
-use Rattle.rules.specs.Together.{Awake, Together}
+use Rattle.rules.specs.State.{resting, waiting, Cond, asleep, running, Task, State, at, isAwake, be, proc, runs, tickOf, due, lastOf}
+use Rattle.rules.proofs.Together.{Awake, Together}
+use Rattle.rules.proofs.Cases.{runsOf, openAt, openCase, moveIn}
 use Rattle.rules.proofs.Books.{Running-books, Books, opens-books, runs-on-books, ends-exact, closes-books}
 use Rattle.rules.proofs.Events.{Core}
 use Rattle.rules.proofs.Calls.{open-parts, shut-parts, next-is}
@@ -95,10 +96,10 @@ pub record Does (L : ℕ) (s : State) (e : ℕ) (rs : List Record) (x : Moved) :
   pub ahead : s.now < e * L
   -- it stays in the plane, or closes it at its end
   pub by-end : ((x .rec .to < e * L) × (x .state .plane ≡ some e)) ⊎ ((x .rec .to ≡ e * L) × (x .state .plane ≡ none))
-  pub due : (j : ℕ) → Awake (at j s.tasks) → e ≤ at j s.tasks .last + short (at j s.tasks)
-  pub stays : (j : ℕ) → Awake (at j s.tasks) → x .rec .to < (at j s.tasks .last + short (at j s.tasks)) * L → Awake (at j (x .state .tasks))
+  pub stays : (j : ℕ) → Awake (at j s.tasks) → x .rec .to < due (at j s.tasks) * L → Awake (at j (x .state .tasks))
+  pub due : (j : ℕ) → Awake (at j s.tasks) → e ≤ due (at j s.tasks)
   pub exact : x .rec .to ≡ e * L → (j : ℕ) → Awake (at j s.tasks)
-      → ran (suc j) (at j s.tasks .last * L) (x .rec .to) (rs ++ (x .rec ∷ [])) ≡ at j s.tasks .share * (e - at j s.tasks .last)
+      → ran (suc j) (lastOf (at j s.tasks) * L) (x .rec .to) (rs ++ (x .rec ∷ [])) ≡ at j s.tasks .share * (e - lastOf (at j s.tasks))
 
 -- IN AN OPEN PLANE
 module _ (s : State) (rs : List Record) (h e : ℕ) (P : Running s.m s.scale s.now e s.tasks) (B : Running-books s.scale s.now e s.tasks rs) (f : Follows 0 rs s.now) (lt : s.now < h * s.scale) where
@@ -126,10 +127,10 @@ module _ (s : State) (rs : List Record) (h e : ℕ) (P : Running s.m s.scale s.n
   after-by-end true q = inr (q, refl)
   after-by-end false q = inl (omega (arith, N .by-end), refl)
 
-  after-stays : (b : Bool) → Says (to ≡ e * s.scale) b → (j : ℕ) → Awake (at j s.tasks) → to < (at j s.tasks .last + short (at j s.tasks)) * s.scale → Awake (at j (after s e to b .tasks))
+  after-stays : (b : Bool) → Says (to ≡ e * s.scale) b → (j : ℕ) → Awake (at j s.tasks) → to < (due (at j s.tasks)) * s.scale → Awake (at j (after s e to b .tasks))
   unfolding after
   after-stays true q j w early = rw (at-closed (to - s.now) e j s.tasks) (close-stays e (be (spend (to - s.now) (at j s.tasks .cond)) (at j s.tasks))
-      (still-awake (to - s.now) (at j s.tasks .cond) ∙ w) (λ z. let y : to ≡ (at j s.tasks .last + short (at j s.tasks)) * s.scale = q ∙ ap (λ x. x * s.scale) (sym z) in omega arith))
+      (still-awake (to - s.now) (at j s.tasks .cond) ∙ w) (λ z. let y : to ≡ (due (at j s.tasks)) * s.scale = q ∙ ap (λ x. x * s.scale) (sym z) in omega arith))
   after-stays false q j w early = ap (λ (c : Core). c .awake) (runs-on s.tasks P to (N .moves) (N .room) (omega (arith, N .by-end)) .same j) ∙ still-awake (to - s.now) (at j s.tasks .cond) ∙ w
 
   once-this : (j : ℕ) → times (suc j) (slotsOf s.m s.tasks) ≤ 1
@@ -162,7 +163,6 @@ module _ (s : State) (rs : List Record) (h e : ℕ) (P : Running s.m s.scale s.n
       }
 
   move-does : h ≤ clock → Does s.scale s e rs (moveIn s (some e) h)
-  unfolding moveIn moveTo
   move-does hc =
       let b = eqb to (e * s.scale) in
       let says = eqb-says to (e * s.scale) in
@@ -182,7 +182,6 @@ module _ (s : State) (rs : List Record) (h e : ℕ) (P : Running s.m s.scale s.n
 -- OR IN A NEW ONE
 case-does : (s : State) (rs : List Record) (h : ℕ) → Together s → Follows 0 rs s.now → s.now < h * s.scale → h ≤ clock → (p : Option ℕ) → s.plane ≡ p → Books s p rs
     → Does s.scale s (endIn s p) rs (moveIn (openCase s p) (openCase s p .plane) h)
-unfolding openCase openAt
 case-does s rs h H f lt hc none q B =
     let R = shut-parts s H q in
     let O = opens-plane s.tasks R in

@@ -14,7 +14,8 @@ use Rattle.ground.proofs.Sums.{sumOf-append, sumOf-at}
 use Rattle.ground.proofs.Tests.{eqb-says}
 use Rattle.ground.proofs.Times.{same-no, same-swap, up-once, by-same}
 use Rattle.rules.specs.Record.{onProc, slotsOf}
-use Rattle.rules.specs.State.{Cond, asleep, resting, running, waiting, Task, nobody, at, procOf, runsOf, onOf, proc, runs, on}
+use Rattle.rules.specs.State.{Cond, asleep, resting, running, waiting, Task, nobody, at, proc, runs, on}
+use Rattle.rules.proofs.Cases.{procOf, runsOf, onOf}
 use Rattle.rules.proofs.Places.{inside}
 use Rattle.rules.proofs.Plane.{Fits}
 

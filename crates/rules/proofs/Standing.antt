@@ -12,7 +12,7 @@ use Rattle.ground.proofs.Sums.{sumOf-mono, sumOf-const, sumOf-add, sumOf-none}
 use Rattle.ground.proofs.Times.{up-length}
 use Rattle.rules.specs.State.{Task, noRow, nobody, at, short, isAwake, proc, runs, on, awakeShare}
 use Rattle.rules.specs.Table.{Row}
-use Rattle.rules.specs.Together.{Awake, Table, Seats, Shut, Going}
+use Rattle.rules.proofs.Together.{Awake, Table, Seats, Shut, Going}
 use Rattle.rules.proofs.Events.{Stands}
 use Rattle.rules.proofs.Opening.{Closed}
 use Rattle.rules.proofs.Places.{inside}

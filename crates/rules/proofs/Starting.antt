@@ -1,9 +1,8 @@
 -- An admitted table gives a state that holds together
 use mathlib.Core.Path.{_≡_, refl, sym, _∙_, ap, subst}
-use mathlib.Core.Bool.{false}
 use mathlib.Core.List.{List, [], _∷_, map}
 use Prim.Native.Nat.{ℕ, zero, suc, _+_, _*_, _/_, _≤_, _<_}
-use native.Mathlib.Omega.{arith}
+use native.Mathlib.Omega.{arith, none}
 use lib.ListN.{length, getD, length-map}
 use Rattle.rules.specs.Bounds.{mostScale}
 use Rattle.rules.specs.declared.Answer.{Answer}
@@ -14,11 +13,14 @@ use Rattle.ground.proofs.Times.{up-length}
 use Rattle.rules.specs.Admission.{admitVerdict, admit}
 use Rattle.rules.specs.Reasons.{LengthOk, RowsOk, AdmitReason}
 use Rattle.rules.specs.Scale.{scaleOf, shareOf}
-use Rattle.rules.specs.State.{asleep, Task, noRow, at, isAwake, runs, waits, fresh, admitted}
+use Rattle.rules.specs.State.{asleep, Task, noRow, at, isAwake, runs, waits, fresh, admitted, Cond}
 use Rattle.rules.specs.Table.{Row, rowAt, rowsOf}
-use Rattle.rules.specs.Together.{Awake, Together}
+use Rattle.rules.proofs.Together.{Awake, Together}
 use Rattle.rules.proofs.Keeping.{not-both, idle-seats}
 use Rattle.rules.proofs.Refusing.{admit-answers}
+use Rattle.rules.proofs.Cases.{runsOf, waitsOf}
+use Rattle.rules.proofs.Lasts.{never}
+use mathlib.Core.Option.{none}
 
 -- ADMITTED
 -- the rows of an admitted table pass
@@ -34,7 +36,7 @@ at-fresh l [] j h = absurd (omega arith)
 at-fresh l (r ∷ rs) zero h = refl
 at-fresh l (r ∷ rs) (suc j) h = at-fresh l rs j (omega arith)
 
-pub all-asleep : (l : ℕ) (rs : List Row) (j : ℕ) → (at j (map (fresh l) rs) .cond ≡ asleep) × (at j (map (fresh l) rs) .arrived ≡ false)
+pub all-asleep : (l : ℕ) (rs : List Row) (j : ℕ) → (at j (map (fresh l) rs) .cond ≡ asleep) × (at j (map (fresh l) rs) .last ≡ none)
 all-asleep l [] j = (refl, refl)
 all-asleep l (r ∷ rs) zero = (refl, refl)
 all-asleep l (r ∷ rs) (suc j) = all-asleep l rs j
@@ -49,7 +51,7 @@ admitted-together m rs P =
     let k = map (fresh l) rs in
     let n : length k ≡ length rs = length-map rs (fresh l) in
     let none′ : (X : Type 0) (j : ℕ) → Awake (at j k) → X = λ X j w. not-both X (sym (ap isAwake (all-asleep l rs j .0)) ∙ w) in
-    let idle : (j : ℕ) → runs (at j k) + waits (at j k) ≡ 0 = λ j. rw (all-asleep l rs j .0) refl in
+    let idle : (j : ℕ) → runs (at j k) + waits (at j k) ≡ 0 = λ j. ap (λ (c : Cond). runsOf c + waitsOf c) (all-asleep l rs j .0) in
     record {
       table = record {
         processors = P .processors;
@@ -63,7 +65,7 @@ admitted-together m rs P =
       };
       clock = omega arith;
       seats = idle-seats m k idle;
-      lasts = record { known = λ j w. none′ _ j w; came = λ j a. not-both _ (sym (all-asleep l rs j .1) ∙ a) };
+      lasts = record { known = λ j w. none′ _ j w; came = λ j a e. never (sym (all-asleep l rs j .1) ∙ e) };
       plane = record { whole = omega (arith, zero-tick l); idle = idle; due = λ j w. none′ _ j w };
     }
   where

@@ -11,8 +11,9 @@ use Rattle.ground.specs.Sums.{sumOf}
 use Rattle.ground.specs.Tests.{if_then_else_}
 use Rattle.ground.proofs.Sums.{sumOf-mono, sumOf-at, sumOf-scale, sumOf-add, sumOf-cong}
 use Rattle.rules.specs.Events.{spend, advance, orKey, nextAt}
-use Rattle.rules.specs.Keys.{runKeyOf, waitKeyOf, runKey, waitKey, Best, nope, best, least}
-use Rattle.rules.specs.State.{Cond, asleep, resting, running, waiting, Task, nobody, at, be, isAwake, amountOf, procOf, runsOf, waitsOf, onOf, amount, runs, waits, on, awakeShare}
+use Rattle.rules.specs.Keys.{runKey, waitKey, Best, nope, best, least}
+use Rattle.rules.specs.State.{Cond, asleep, resting, running, waiting, Task, nobody, at, be, isAwake, amount, runs, waits, on, awakeShare}
+use Rattle.rules.proofs.Cases.{amountOf, procOf, runsOf, waitsOf, onOf, runKeyOf, waitKeyOf}
 use Rattle.rules.proofs.Events.{Stands}
 use Rattle.rules.proofs.Places.{IsLeast, least-is}
 use Rattle.rules.proofs.Plane.{Fits, is-waiting, is-running}

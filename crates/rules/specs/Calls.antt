@@ -1,7 +1,7 @@
 -- ARRIVE AND STEP, with their refusals
 use mathlib.Core.Bool.{Bool, true, false, not, _&&_}
-use mathlib.Core.Option.{Option, none, some}
-use mathlib.Core.List.{List, [], _++_}
+use mathlib.Core.Option.{Option, none, some, Option·getD}
+use mathlib.Core.List.{List, _++_}
 use Prim.Native.Nat.{ℕ, zero, suc, _+_, _*_, _-_}
 use lib.Dec.{leb, ltb, eqb}
 use lib.ListN.{length, set, drop}
@@ -10,7 +10,7 @@ use Rattle.rules.specs.Bounds.{clock, recordSize}
 use Rattle.rules.specs.declared.Answer.{Answer}
 use Rattle.rules.specs.declared.Answer.the-variants.{Done, TaskNumber, BetweenTicks, TooSoon, HorizonPastClock, HorizonNotLater, RoomTooShort, NotTogether}
 use Rattle.rules.specs.Answers.{isDone}
-use Rattle.rules.specs.State.{Cond, asleep, resting, running, waiting, Task, State, at, period, tickOf, onTick}
+use Rattle.rules.specs.State.{Cond, resting, running, waiting, Task, State, at, period, tickOf, onTick}
 use Rattle.rules.specs.Holds.{holds}
 use Rattle.rules.specs.Planes.{opened, closed}
 use Rattle.rules.specs.Events.{advance, events, nextAt, seize}
@@ -24,7 +24,7 @@ lowestIdle l p (suc n) = elim (onProc p 1 l) [ zero ↦ some p | suc k ↦ lowes
 
 -- the task in place i arrives at a tick, and takes the condition c
 unfoldable pub wake : ℕ → ℕ → Cond → List Task → List Task
-wake i tick c l = set l i (record { row = at i l .row; share = at i l .share; cond = c; arrived = true; last = tick })
+wake i tick c l = set l i (record { row = at i l .row; share = at i l .share; cond = c; last = some tick })
 
 -- "If a processor is idle, take the lowest. Else, if the share is below L, wait.
 -- Else take the processor of the running task with the least key, which waits."
@@ -49,7 +49,7 @@ taskKnown s task = leb 1 task && leb task (length s.tasks)
 
 -- 9: "the task arrived before, less than p ticks ago"
 abbrev pub tooSoon : ℕ → Task → Bool
-tooSoon tick t = t.arrived && ltb tick (t.last + period t)
+tooSoon tick t = elim t.last [ none ↦ false | some a ↦ ltb tick (a + period t) ]
 
 -- "In arrive: 13, 7, 8, 9."
 unfoldable pub arriveAnswer : State → ℕ → Answer
@@ -80,16 +80,13 @@ unfoldable pub after : State → ℕ → ℕ → Bool → State
 after s e to true = record { m = s.m; scale = s.scale; now = to; plane = none; tasks = closed e (advance (to - s.now) s.tasks) }
 after s e to false = record { m = s.m; scale = s.scale; now = to; plane = some e; tasks = events (e * s.scale) to (advance (to - s.now) s.tasks) }
 
-unfoldable pub moveTo : State → ℕ → ℕ → Moved
-moveTo s e to = record { state = after s e to (eqb to (e * s.scale)); rec = record { from = s.now; to = to; slots = slotsOf s.m s.tasks } }
-
-unfoldable pub moveIn : State → Option ℕ → ℕ → Moved
-moveIn s none horizon = record { state = s; rec = record { from = s.now; to = s.now; slots = [] } }
-moveIn s (some e) horizon = moveTo s e (nextAt (e * s.scale) s.now s.tasks (horizon * s.scale))
-
--- "run to the next event or the horizon, whichever is first, and write one record"
+-- "run to the next event or the horizon, whichever is first, and write one record"; the plane that is open ends at the tick e
 unfoldable pub moving : State → ℕ → Moved
-moving s horizon = let o = opened s in moveIn o o.plane horizon
+moving s horizon =
+    let o = opened s in
+    let e = Option·getD o.plane 0 in
+    let to = nextAt (e * o.scale) o.now o.tasks (horizon * o.scale) in
+    record { state = after o e to (eqb to (e * o.scale)); rec = record { from = o.now; to = to; slots = slotsOf o.m o.tasks } }
 
 -- "In step: 13, 12, 10, 11."
 unfoldable pub stepAnswer : State → ℕ → ℕ → Answer

@@ -1,5 +1,6 @@
 -- DEMAND 3, said of a table and of all that was called and handed out
 use mathlib.Core.Path.{_≡_}
+use mathlib.Core.Bool.{true}
 use mathlib.Core.List.{List, _∷_, _++_}
 use mathlib.Core.Logic.{_≢_, _↔_}
 use mathlib.Core.Option.{some}
@@ -12,7 +13,6 @@ use Rattle.rules.specs.Table.{Row, rowsOf, shorter}
 use Rattle.rules.specs.Scale.{scaleOf}
 use Rattle.rules.specs.Admission.{admit}
 use Rattle.rules.specs.State.{Task, State, noRow, at, isAwake, amount, tickOf}
-use Rattle.rules.specs.Together.{Awake}
 use Rattle.rules.specs.Calls.{arrive, step}
 use Rattle.rules.specs.Run.{Call, arriveCall, Run, runOf}
 use Rattle.rules.specs.History.{ran, Once, Within, Working, Follows, EndsAt, cameBy, planeEnd}
@@ -34,7 +34,7 @@ module _ (rows : List Row) (h : Run) (n a : ℕ) where
 
   pub record Job : Type 0 where
     -- until q after its arrival it is awake, and no other arrival has taken its place
-    pub awake : h.state.now < (a + q) * L → Awake (at (n - 1) h.state.tasks) × (at (n - 1) h.state.tasks .last ≡ a)
+    pub awake : h.state.now < (a + q) * L → (isAwake (at (n - 1) h.state.tasks .cond) ≡ true) × (at (n - 1) h.state.tasks .last ≡ some a)
     -- "at every plane end that the clock reaches, each job awake in that plane has run since its arrival
     -- exactly e times the ticks elapsed, divided by q"
     pub exact : (k t : ℕ) → Reached rows h k t → a ≤ t → t ≤ a + q → ran n (a * L) (t * L) h.records * q ≡ e * L * (t - a)
@@ -80,7 +80,6 @@ pub record Demand3 : Type 0 where
 pub record Untouched (t u : Task) : Type 0 where
   pub row : u.row ≡ t.row
   pub share : u.share ≡ t.share
-  pub arrived : u.arrived ≡ t.arrived
   pub last : u.last ≡ t.last
   pub awake : isAwake u.cond ≡ isAwake t.cond
   pub left : amount u ≡ amount t

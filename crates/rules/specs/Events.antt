@@ -1,6 +1,6 @@
 -- EVENTS: what happens at an instant inside a plane
-use mathlib.Core.Bool.{Bool, true, false}
-use mathlib.Core.List.{List, [], _∷_, map, foldl}
+use mathlib.Core.Bool.{true, false}
+use mathlib.Core.List.{List, map, foldl}
 use Prim.Native.Nat.{ℕ, zero, suc, _-_, min}
 use lib.Dec.{leb, eqb}
 use Rattle.ground.specs.Tests.{if_then_else_}
@@ -27,30 +27,26 @@ unfoldable pub nextAt : ℕ → ℕ → List Task → ℕ → ℕ
 nextAt end now l stop = orKey (least (runKey now) l) (orKey (least (waitKey end) l) (min end stop))
 
 -- "its processor goes to the waiting task with the least key"
-unfoldable pub giveTo : ℕ → List Task → Best → List Task
-giveTo p l nope = l
-giveTo p l (best i k) = become i (running p (amount (at i l))) l
-
 unfoldable pub give : ℕ → ℕ → List Task → List Task
-give end p l = giveTo p l (least (waitKey end) l)
+give end p l = elim (least (waitKey end) l) [ nope ↦ l | best i k ↦ become i (running p (amount (at i l))) l ]
 
 -- task i "takes the processor of the running task with the least key, which waits"
-unfoldable pub takeFrom : ℕ → List Task → Best → List Task
-takeFrom i l nope = l
-takeFrom i l (best j k) = become i (running (proc (at j l)) (amount (at i l))) (become j (waiting (amount (at j l))) l)
-
 unfoldable pub seize : ℕ → ℕ → List Task → List Task
-seize now i l = takeFrom i l (least (runKey now) l)
+seize now i l =
+    elim (least (runKey now) l) [
+      | nope ↦ l
+      | best j k ↦ become i (running (proc (at j l)) (amount (at i l))) (become j (waiting (amount (at j l))) l)
+    ]
 
 -- B: a running task has nothing left; "the task rests, and its processor goes" on
-unfoldable pub bCase : ℕ → List Task → ℕ → Cond → List Task
-bCase end l i asleep = l
-bCase end l i resting = l
-bCase end l i (running p a) = if eqb a 0 then give end p (become i resting l) else l
-bCase end l i (waiting a) = l
-
 unfoldable pub bEvent : ℕ → List Task → ℕ → List Task
-bEvent end l i = bCase end l i (at i l .cond)
+bEvent end l i =
+    elim (at i l .cond) [
+      | asleep ↦ l
+      | resting ↦ l
+      | running p a ↦ (if eqb a 0 then give end p (become i resting l) else l)
+      | waiting a ↦ l
+    ]
 
 -- "all B events due come first, by lower number"
 unfoldable pub bEvents : ℕ → List Task → List Task

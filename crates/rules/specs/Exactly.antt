@@ -7,9 +7,9 @@ use lib.ListN.{length, getD}
 use Rattle.rules.specs.declared.Answer.{Answer}
 use Rattle.rules.specs.Table.{Row, shorter}
 use Rattle.rules.specs.Scale.{scaleOf, shareOf}
-use Rattle.rules.specs.Admission.{Admitted, admit}
+use Rattle.rules.specs.Admission.{admit}
 use Rattle.rules.specs.State.{State, noRow}
-use Rattle.rules.specs.Calls.{arrive, step, Arrived, Stepped}
+use Rattle.rules.specs.Calls.{arrive, step}
 use Rattle.rules.specs.Reasons.{RowsOk, AdmitReason, ArriveReason, StepReason}
 
 -- "Given exactly when": a call gives an answer (and admission a row) exactly when its reason is the case

@@ -1,13 +1,13 @@
 -- FIGURES TO CHECK AGAINST: P1 to P10 of document 01, and what they leave open. One list
 use mathlib.Core.Path.{_≡_}
 use mathlib.Core.Bool.{true}
+use mathlib.Core.Option.{some}
 use mathlib.Core.List.{[], _∷_}
 use Prim.Native.Nat.{ℕ, _+_, _*_, _-_, _≤_, _<_, min}
 use lib.ListN.{length}
 use Rattle.rules.specs.Answers.{numberOf}
 use Rattle.rules.specs.State.{State, at, period}
-use Rattle.rules.specs.Together.{InRange}
-use Rattle.rules.specs.Reasons.{ProcessorsOk}
+use Rattle.rules.specs.Reasons.{InRange, ProcessorsOk}
 use Rattle.rules.specs.Holds.{holds}
 use Rattle.rules.specs.Calls.{arriveAnswer}
 use Rattle.rules.specs.Handed.{Handed}
@@ -19,8 +19,7 @@ use Rattle.rules.specs.Listings.{row, scaleIn, Listings}
 pub record ArrivedAgo (s : State) (task ticks : ℕ) : Type 0 where
   pub together : holds s ≡ true
   pub known : (1 ≤ task) × (task ≤ length s.tasks)
-  pub came : at (task - 1) s.tasks .arrived ≡ true
-  pub ago : s.now ≡ (at (task - 1) s.tasks .last + ticks) * s.scale
+  pub came : (a : ℕ) × (at (task - 1) s.tasks .last ≡ some a) × (s.now ≡ (a + ticks) * s.scale)
 
 pub record Figures : Type 0 where
   -- those with numbers hold by computation: P1, P3 and P4 stand in the listings, P2 in the answers

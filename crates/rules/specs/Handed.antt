@@ -1,7 +1,7 @@
 -- FIGURES ON STATES HANDED IN: two that hold together, and each with a change
 use mathlib.Core.Path.{_≡_}
-use mathlib.Core.Bool.{Bool, true, false}
-use mathlib.Core.Option.{Option, none, some}
+use mathlib.Core.Bool.{true, false}
+use mathlib.Core.Option.{none, some}
 use mathlib.Core.List.{List, [], _∷_}
 use Prim.Native.Nat.{ℕ, _-_}
 use lib.ListN.{set, replicate}
@@ -12,10 +12,10 @@ use Rattle.rules.specs.Listings.{row}
 
 -- a task that arrived at 0, and one that never did
 abbrev pub came-at-0 : Row → ℕ → Cond → Task
-came-at-0 r share c = record { row = r; share = share; cond = c; arrived = true; last = 0 }
+came-at-0 r share c = record { row = r; share = share; cond = c; last = some 0 }
 
 abbrev pub yet-to-come : Row → ℕ → Task
-yet-to-come r share = record { row = r; share = share; cond = asleep; arrived = false; last = 0 }
+yet-to-come r share = record { row = r; share = share; cond = asleep; last = none }
 
 -- A PLANE IS OPEN. m is 2, L is 4, each share is 2. The present is 5 and the plane ends at tick 4, so 11 sub-ticks are left
 abbrev pub underway : State
@@ -62,10 +62,10 @@ abbrev pub task : ℕ → Cond → State → State
 task n c s = exchanged n (be c (at (n - 1) s.tasks)) s
 
 abbrev pub came : ℕ → ℕ → State → State
-came n tick s = let t = at (n - 1) s.tasks in exchanged n (record { row = t.row; share = t.share; cond = t.cond; arrived = true; last = tick }) s
+came n tick s = let t = at (n - 1) s.tasks in exchanged n (record { row = t.row; share = t.share; cond = t.cond; last = some tick }) s
 
 abbrev pub never-came : ℕ → State → State
-never-came n s = let t = at (n - 1) s.tasks in exchanged n (record { row = t.row; share = t.share; cond = t.cond; arrived = false; last = 0 }) s
+never-came n s = let t = at (n - 1) s.tasks in exchanged n (record { row = t.row; share = t.share; cond = t.cond; last = none }) s
 
 -- other amounts of tasks 1 and 2, which run, and of task 3, which waits
 abbrev pub amounts : ℕ → ℕ → ℕ → State → State
@@ -104,6 +104,9 @@ pub record Handed : Type 0 where
   -- 1 + 6 is later than tick 5, and 7 + 2 is 9; but 0 + 6 + 2 is before 9
   pub asleep-by-arrival : holds (underway ▷ present 20 ▷ ends 9 ▷ came 1 5 ▷ came 2 5 ▷ came 3 5 ▷ came 4 1) ≡ true
   pub asleep-too-long : holds (underway ▷ present 20 ▷ ends 9 ▷ came 1 5 ▷ came 2 5 ▷ came 3 5 ▷ came 4 0) ≡ false
+  -- 2 + 6 + 2 is 10; but 1 + 6 + 2 is before 10
+  pub asleep-by-later-arrival : holds (underway ▷ present 24 ▷ ends 10 ▷ came 1 6 ▷ came 2 6 ▷ came 3 6 ▷ came 4 2) ≡ true
+  pub asleep-too-long-since : holds (underway ▷ present 24 ▷ ends 10 ▷ came 1 6 ▷ came 2 6 ▷ came 3 6 ▷ came 4 1) ≡ false
   -- CLOSED
   pub closed-holds : holds between ≡ true
   -- "the instant is a whole tick"

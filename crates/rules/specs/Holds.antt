@@ -1,8 +1,8 @@
 -- A STATE THAT HOLDS TOGETHER
-use mathlib.Core.Bool.{Bool, true, false, not, _&&_, _||_}
+use mathlib.Core.Bool.{Bool, true, not, _&&_, _||_}
 use mathlib.Core.Option.{Option, none, some}
 use mathlib.Core.List.{List, map}
-use Prim.Native.Nat.{ℕ, _+_, _*_, _-_, _/_, max}
+use Prim.Native.Nat.{ℕ, _+_, _*_, _-_}
 use lib.Dec.{leb, ltb, eqb}
 use lib.ListN.{length}
 use Rattle.ground.specs.Tests.{if_then_else_, every}
@@ -11,8 +11,8 @@ use Rattle.rules.specs.Bounds.{clock, mostTasks}
 use Rattle.rules.specs.Answers.{isDone}
 use Rattle.rules.specs.Table.{Row}
 use Rattle.rules.specs.Scale.{scaleOf, shareOf}
-use Rattle.rules.specs.Admission.{Verdict, processorsOk, rowsVerdict}
-use Rattle.rules.specs.State.{Cond, asleep, resting, running, waiting, Task, State, period, short, isAwake, amount, runs, waits, on, awakeShare, tickOf, onTick}
+use Rattle.rules.specs.Admission.{processorsOk, rowsVerdict}
+use Rattle.rules.specs.State.{Cond, asleep, resting, running, waiting, Task, State, short, isAwake, amount, runs, waits, on, awakeShare, due, soonest, tickOf, onTick}
 
 abbrev pub rowsIn : State → List Row
 rowsIn s = map (λ (t : Task). t.row) s.tasks
@@ -40,14 +40,14 @@ conditionsHold s = every (λ (t : Task). seated s.m t.cond) s.tasks && every (λ
 
 -- "A last arrival is never later than the present, and an awake task has one."
 abbrev pub lastHolds : State → Task → Bool
-lastHolds s t = if t.arrived then leb (t.last * s.scale) s.now else not (isAwake t.cond)
+lastHolds s t = elim t.last [ none ↦ not (isAwake t.cond) | some a ↦ leb (a * s.scale) s.now ]
 
 unfoldable pub lastsHold : State → Bool
 lastsHold s = every (lastHolds s) s.tasks
 
 -- "nobody runs or waits, every awake task counts as resting, and its last arrival plus q lies later"
 abbrev pub restsAt : ℕ → Task → Bool
-restsAt tick t = eqb (runs t + waits t) 0 && (if isAwake t.cond then ltb tick (t.last + short t) else true)
+restsAt tick t = eqb (runs t + waits t) 0 && (if isAwake t.cond then ltb tick (due t) else true)
 
 -- "With a plane closed, the instant is a whole tick"
 unfoldable pub closedHolds : State → Bool
@@ -68,17 +68,14 @@ idleHolds m l = eqb (sumOf waits l) 0 || eqb (sumOf runs l) m
 abbrev pub sumHolds : ℕ → ℕ → List Task → Bool
 sumHolds scale left l = leb (sumOf amount l * scale) (sumOf awakeShare l * left)
 
--- the present rounded up to a tick
+-- "the present rounded up to a tick"
 abbrev pub ceilTick : State → ℕ
 ceilTick s = if onTick s then tickOf s else tickOf s + 1
 
--- "the present rounded up to a tick, or its last arrival plus p if later"
-abbrev pub soonest : ℕ → Task → ℕ
-soonest tick t = if t.arrived then max tick (t.last + period t) else tick
-
--- "every awake task's last arrival plus q is at or after the end; for each asleep task" the soonest "plus q"
+-- "every awake task's last arrival plus q is at or after the end; for each asleep task, the present rounded up to a tick,
+-- or its last arrival plus p if later, plus q, is at or after the end"
 abbrev pub limitHolds : ℕ → ℕ → Task → Bool
-limitHolds tick end t = if isAwake t.cond then leb end (t.last + short t) else leb end (soonest tick t + short t)
+limitHolds tick end t = if isAwake t.cond then leb end (due t) else leb end (soonest tick t + short t)
 
 -- "its end is a whole tick and later than the present"
 unfoldable pub openHolds : State → ℕ → Bool

@@ -4,27 +4,15 @@ use mathlib.Core.List.{List, [], _∷_}
 use Prim.Native.Nat.{ℕ, suc, _+_, _-_}
 use lib.Dec.{leb}
 use Rattle.ground.specs.Tests.{if_then_else_}
-use Rattle.rules.specs.State.{Cond, asleep, resting, running, waiting, Task}
+use Rattle.rules.specs.State.{asleep, resting, running, waiting, Task}
 
 -- "A running task's key is the present plus its amount"
-abbrev pub runKeyOf : ℕ → Cond → Option ℕ
-runKeyOf now asleep = none
-runKeyOf now resting = none
-runKeyOf now (running p a) = some (now + a)
-runKeyOf now (waiting a) = none
+abbrev pub runKey : ℕ → Task → Option ℕ
+runKey now t = elim t.cond [ asleep ↦ none | resting ↦ none | running p a ↦ some (now + a) | waiting a ↦ none ]
 
 -- "A waiting task's key is the end minus its amount"
-abbrev pub waitKeyOf : ℕ → Cond → Option ℕ
-waitKeyOf end asleep = none
-waitKeyOf end resting = none
-waitKeyOf end (running p a) = none
-waitKeyOf end (waiting a) = some (end - a)
-
-abbrev pub runKey : ℕ → Task → Option ℕ
-runKey now t = runKeyOf now t.cond
-
 abbrev pub waitKey : ℕ → Task → Option ℕ
-waitKey end t = waitKeyOf end t.cond
+waitKey end t = elim t.cond [ asleep ↦ none | resting ↦ none | running p a ↦ none | waiting a ↦ some (end - a) ]
 
 -- the place and key of a task, or of nobody
 pub data Best : Type 0 where
@@ -38,7 +26,7 @@ better none (best j k′) = best (suc j) k′
 better (some k) nope = best 0 k
 better (some k) (best j k′) = if leb k k′ then best 0 k else best (suc j) k′
 
--- "the task with the least key"
+-- the task with the least key
 unfoldable pub least : (Task → Option ℕ) → List Task → Best
 least key [] = nope
 least key (t ∷ l) = better (key t) (least key l)

@@ -5,7 +5,6 @@ pub mod Scale
 pub mod Admission
 pub mod State
 pub mod Holds
-pub mod Together
 pub mod Keys
 pub mod Planes
 pub mod Events
@@ -21,4 +20,3 @@ pub mod Handed
 pub mod Answered
 pub mod Histories
 pub mod Figures
-pub mod Computed

@@ -93,6 +93,8 @@ pub record Listings : Type 0 where
   pub p4 : listed (row 4 2 4 ∷ row 4 2 4 ∷ row 3 3 3 ∷ []) 2 (arrives 0 1 ∷ arrives 0 2 ∷ arrives 1 3 ∷ until 3 ∷ [])
       ≡ line 0 12 (1 ∷ 2 ∷ []) ∷ line 12 18 (3 ∷ 2 ∷ []) ∷ line 18 24 (3 ∷ 1 ∷ []) ∷ line 24 36 (3 ∷ 0 ∷ []) ∷ []
   pub p4-end : endAfter (row 4 2 4 ∷ row 4 2 4 ∷ row 3 3 3 ∷ []) 2 (arrives 0 1 ∷ arrives 0 2 ∷ until 1 ∷ []) ≡ some 3
+  -- "the present plus q for asleep tasks", whenever they came: a row 4 1 2 that came at 2 sleeps from 4 on, and the plane opened there ends at 6
+  pub asleep-again : endAfter (row 4 1 2 ∷ []) 1 (arrives 2 1 ∷ until 5 ∷ []) ≡ some 6
   -- "with rows 10 5 10 and 2 1 2, task 2's deadline falls inside": asleep it ends a plane at every second tick,
   -- and task 1 runs on over four of these ends
   pub asleep-counts : listed (row 10 5 10 ∷ row 2 1 2 ∷ []) 1 (arrives 0 1 ∷ until 10 ∷ [])

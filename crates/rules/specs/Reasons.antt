@@ -1,18 +1,18 @@
 -- "GIVEN EXACTLY WHEN": for each answer of each call, what is then the case
 use mathlib.Core.Path.{_≡_}
-use mathlib.Core.Bool.{Bool, true}
-use mathlib.Core.Logic.{_⊎_}
-use mathlib.Core.List.{List, []}
-use Prim.Native.Nat.{ℕ, _+_, _*_, _-_, _/_, _%_, _≤_, _<_}
+use mathlib.Core.Bool.{true, false}
+use mathlib.Core.Option.{some}
+use mathlib.Core.List.{List}
+use Prim.Native.Nat.{ℕ, _+_, _*_, _-_, _%_, _≤_, _<_}
 use lib.ListN.{length, getD}
 use Rattle.ground.specs.Sums.{sumOf}
-use Rattle.rules.specs.Bounds.{clock, mostProcessors, mostScale, mostTasks, recordSize, rowSize}
+use Rattle.rules.specs.Bounds.{clock, mostProcessors, mostScale, mostTasks, mostTicks, recordSize, rowSize}
 use Rattle.rules.specs.declared.Answer.{Answer}
 use Rattle.rules.specs.declared.Answer.the-variants.{Done, Processors, TableLength, RowRange, RowExecution, Scale, Shares, TaskNumber, BetweenTicks, TooSoon, HorizonPastClock, HorizonNotLater, RoomTooShort, NotTogether, TextForm}
 use Rattle.rules.specs.Table.{Row, rowsOf, shorter}
 use Rattle.rules.specs.Scale.{scaleOf, shareOf}
 use Rattle.rules.specs.State.{Task, State, noRow, at, period, tickOf}
-use Rattle.rules.specs.Together.{InRange, Together}
+use Rattle.rules.specs.Holds.{holds}
 
 -- ADMIT, with its row; the conditions are in 01's order, each after the ones before it
 abbrev pub ProcessorsOk : ℕ → Type 0
@@ -20,6 +20,9 @@ ProcessorsOk m = (1 ≤ m) × (m ≤ mostProcessors)
 
 abbrev pub LengthOk : ℕ → Type 0
 LengthOk n = (1 ≤ n) × (n ≤ mostTasks * rowSize) × (n % rowSize ≡ 0)
+
+abbrev pub InRange : ℕ → Type 0
+InRange x = (1 ≤ x) × (x ≤ mostTicks)
 
 abbrev pub RowInRange : Row → Type 0
 RowInRange r = InRange r.period × InRange r.exec × InRange r.deadline
@@ -68,14 +71,14 @@ OnTick s = s.now ≡ tickOf s * s.scale
 
 -- "the task arrived before, less than p ticks ago"
 abbrev pub Soon : State → Task → Type 0
-Soon s t = (t.arrived ≡ true) × (tickOf s < t.last + period t)
+Soon s t = (a : ℕ) × (t.last ≡ some a) × (tickOf s < a + period t)
 
 abbrev pub ArriveReason : State → ℕ → Answer → Type 0
-ArriveReason s task NotTogether = ¬ Together s
-ArriveReason s task TaskNumber = Together s × ¬ TaskKnown s task
-ArriveReason s task BetweenTicks = Together s × TaskKnown s task × ¬ OnTick s
-ArriveReason s task TooSoon = Together s × TaskKnown s task × OnTick s × Soon s (at (task - 1) s.tasks)
-ArriveReason s task Done = Together s × TaskKnown s task × OnTick s × ¬ Soon s (at (task - 1) s.tasks)
+ArriveReason s task NotTogether = holds s ≡ false
+ArriveReason s task TaskNumber = (holds s ≡ true) × ¬ TaskKnown s task
+ArriveReason s task BetweenTicks = (holds s ≡ true) × TaskKnown s task × ¬ OnTick s
+ArriveReason s task TooSoon = (holds s ≡ true) × TaskKnown s task × OnTick s × Soon s (at (task - 1) s.tasks)
+ArriveReason s task Done = (holds s ≡ true) × TaskKnown s task × OnTick s × ¬ Soon s (at (task - 1) s.tasks)
 ArriveReason s task Processors = ⊥
 ArriveReason s task TableLength = ⊥
 ArriveReason s task RowRange = ⊥
@@ -91,15 +94,15 @@ ArriveReason s task TextForm = ⊥
 pub record Comes (s : State) (i : ℕ) : Type 0 where
   pub known : i < length s.tasks
   pub whole : s.now ≡ tickOf s * s.scale
-  pub late : at i s.tasks .arrived ≡ true → at i s.tasks .last + period (at i s.tasks) ≤ tickOf s
+  pub late : (a : ℕ) → at i s.tasks .last ≡ some a → a + period (at i s.tasks) ≤ tickOf s
 
 -- STEP
 abbrev pub StepReason : State → ℕ → ℕ → Answer → Type 0
-StepReason s horizon room NotTogether = ¬ Together s
-StepReason s horizon room RoomTooShort = Together s × (room < recordSize)
-StepReason s horizon room HorizonPastClock = Together s × (recordSize ≤ room) × (clock < horizon)
-StepReason s horizon room HorizonNotLater = Together s × (recordSize ≤ room) × (horizon ≤ clock) × (horizon * s.scale ≤ s.now)
-StepReason s horizon room Done = Together s × (recordSize ≤ room) × (horizon ≤ clock) × (s.now < horizon * s.scale)
+StepReason s horizon room NotTogether = holds s ≡ false
+StepReason s horizon room RoomTooShort = (holds s ≡ true) × (room < recordSize)
+StepReason s horizon room HorizonPastClock = (holds s ≡ true) × (recordSize ≤ room) × (clock < horizon)
+StepReason s horizon room HorizonNotLater = (holds s ≡ true) × (recordSize ≤ room) × (horizon ≤ clock) × (horizon * s.scale ≤ s.now)
+StepReason s horizon room Done = (holds s ≡ true) × (recordSize ≤ room) × (horizon ≤ clock) × (s.now < horizon * s.scale)
 StepReason s horizon room Processors = ⊥
 StepReason s horizon room TableLength = ⊥
 StepReason s horizon room RowRange = ⊥

@@ -1,13 +1,12 @@
 -- A RUN: any list of calls, refused ones among them, each on the state that the last one handed back
-use mathlib.Core.Bool.{Bool, true, false}
 use mathlib.Core.List.{List, [], _∷_, _++_, foldl}
 use Prim.Native.Nat.{ℕ}
 use Rattle.ground.specs.Tests.{if_then_else_}
 use Rattle.rules.specs.Answers.{isDone}
-use Rattle.rules.specs.Admission.{Admitted, admit}
+use Rattle.rules.specs.Admission.{admit}
 use Rattle.rules.specs.State.{State, tickOf}
 use Rattle.rules.specs.Record.{Record, readRecord}
-use Rattle.rules.specs.Calls.{arrive, step, Arrived, Stepped}
+use Rattle.rules.specs.Calls.{arrive, step}
 
 -- a call: an arrival of the task with this number; a step to this horizon, with this room lent
 pub data Call : Type 0 where

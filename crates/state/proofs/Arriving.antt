@@ -18,7 +18,8 @@ use Rattle.ground.specs.Tests.{if_then_else_}
 use Rattle.rules.specs.Calls.{lowestIdle, wake, arriveIdle, arriveIn, arriving}
 use Rattle.rules.specs.Events.{seize}
 use Rattle.rules.specs.Record.{onProc}
-use Rattle.rules.specs.State.{Cond, asleep, resting, running, waiting, Task, nobody, at, be, become, amountOf, runsOf, waitsOf, runs, waits}
+use Rattle.rules.specs.State.{Cond, asleep, resting, running, waiting, Task, nobody, at, be, become, runs, waits}
+use Rattle.rules.proofs.Cases.{amountOf, runsOf, waitsOf}
 use Rattle.rules.proofs.Events.{Stands}
 use Rattle.queue.specs.Queues.{topKey, keyIn}
 use Rattle.queue.proofs.Keys.{some-held}
@@ -68,7 +69,7 @@ woken-is s l I A i tick hi out-r out-w =
     each : (j : ℕ) → j < s .table .count → Dec (j ≡ i) → at j (wake i tick resting l) ≡ taskAt (woken s i tick) j
     each j hj (yes z) =
         rw z (getD-set-same l i _ nobody (in-list I i hi)
-        ∙ ap (λ (t : Task). record { row = t .row; share = t .share; cond = resting; arrived = true; last = tick }) (I .shows .each i hi)
+        ∙ ap (λ (t : Task). record { row = t .row; share = t .share; cond = resting; last = some tick }) (I .shows .each i hi)
         ∙ rw (
           out-r,
           out-w,
@@ -83,7 +84,7 @@ woken-is s l I A i tick hi out-r out-w =
 wake-become : (i tick : ℕ) (d : Cond) (l : List Task) → i < length l → wake i tick d l ≡ become i d (wake i tick resting l)
 unfolding wake become
 wake-become i tick d l hi =
-    let t : Task = record { row = at i l .row; share = at i l .share; cond = resting; arrived = true; last = tick } in
+    let t : Task = record { row = at i l .row; share = at i l .share; cond = resting; last = some tick } in
     sym (ap (λ (u : Task). set (set l i t) i (be d u)) (getD-set-same l i t nobody hi) ∙ set-set l i t (be d t))
 
 -- THE LOWEST IDLE PROCESSOR

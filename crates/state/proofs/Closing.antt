@@ -17,8 +17,8 @@ use Rattle.state.specs.declared.State.{State}
 use Rattle.ground.specs.Sums.{sumOf, upFrom}
 use Rattle.ground.specs.Tests.{if_then_else_}
 use Rattle.rules.specs.Events.{spend, advance}
-use Rattle.rules.specs.Planes.{closeCond, closeTask, closed}
-use Rattle.rules.specs.State.{Cond, asleep, resting, running, waiting, Task, nobody, at, be, isAwake}
+use Rattle.rules.specs.Planes.{closeTask, closed}
+use Rattle.rules.specs.State.{Cond, asleep, resting, running, waiting, Task, nobody, at, be, isAwake, lastOf, due}
 use Rattle.rules.proofs.Time.{at-advance, length-advance, still-awake}
 use Rattle.queue.specs.Queues.{keyIn, one, Good}
 use Rattle.queue.proofs.Keys.{none-empty}
@@ -29,6 +29,7 @@ use Rattle.state.proofs.Passing.{awake-at}
 use Rattle.ground.proofs.Ranges.{all-one}
 use Rattle.state.proofs.Shows.{seen, cond-at, clash}
 use Rattle.state.proofs.Views.{crew, IsState}
+use Rattle.state.proofs.Lasts.{Known, last-kept}
 
 -- NOBODY RUNS OR WAITS
 pub emptied-good : (q : Queue) → Good q → Good (emptied q)
@@ -114,15 +115,15 @@ not-awake resting e = cc
 not-awake (running p a) e = cc
 not-awake (waiting a) e = cc
 
-close-cond : (d now end p : ℕ) (x : Cond) (a late : Bool) (t : Task) → isAwake x ≡ a
-    → (if isAwake (spend d x) then be (closeCond late) t else be (spend d x) t) ≡ be (condOf now end none none p (a && not late)) t
-close-cond d now end p x true true t e = rw (still-awake d x, e)
-close-cond d now end p x true false t e = rw (still-awake d x, e)
-close-cond d now end p x false late t e = let z = not-awake x e in rw z
+close-cond : (d now end p : ℕ) (x : Cond) (a ends late : Bool) (t : Task) → isAwake x ≡ a → (a ≡ true → ends ≡ late)
+    → (if isAwake (spend d x) then be (if ends then asleep else resting) t else be (spend d x) t) ≡ be (condOf now end none none p (a && not late)) t
+close-cond d now end p x true ends true t e f = rw (still-awake d x, e, f refl)
+close-cond d now end p x true ends false t e f = rw (still-awake d x, e, f refl)
+close-cond d now end p x false ends late t e f = let z = not-awake x e in rw z
 
-pub close-is : (s : State) (l : List Task) → IsState s l → (to : ℕ) → IsState (closedOf s to) (closed (s .end) (advance (to - s .now .0) l))
+pub close-is : (s : State) (l : List Task) → IsState s l → Known l → (to : ℕ) → IsState (closedOf s to) (closed (s .end) (advance (to - s .now .0) l))
 unfolding closedOf closed condIn
-close-is s l I to =
+close-is s l I K to =
     record {
       tidy = empty-tidy (s .table .count) _ (workOf (closedOf s to)) (S .few) (S .seats .most) (emptied-good (s .running) (S .running)) (emptied-good (s .waiting) (S .waiting)) refl refl refl;
       shows = record { size = length-map (advance d l) _ ∙ length-advance d l ∙ I .shows .size; each = λ i hi. each i hi };
@@ -137,10 +138,14 @@ close-is s l I to =
     j : Jobs
     j = s .jobs
 
+    -- an awake task's last arrival is the one that is kept
+    tick : (i : ℕ) → i < s .table .count → getD (j .awake) i false ≡ true → lastOf (jobAt (s .table) j i) ≡ getD (j .last) i 0
+    tick i hi w = let k = K i (awake-at I i hi ∙ w) in ap lastOf (sym (I .shows .each i hi)) ∙ last-kept s l I i hi (k .0) (k .1)
+
     each : (i : ℕ) → i < s .table .count → at i (map (closeTask (s .end)) (advance d l)) ≡ seen (crew (closedOf s to)) (workOf (closedOf s to)) i
     each i hi =
         List·getD-map (closeTask (s .end)) (advance d l) i nobody
         ∙ ap (closeTask (s .end)) (at-advance d i l ∙ ap (λ (t : Task). be (spend d (t .cond)) t) (I .shows .each i hi))
         ∙ rw (none-empty (emptied (s .running)) refl (suc i), none-empty (emptied (s .waiting)) refl (suc i), sleep-at (s .table) (j .last) (s .end) (j .awake) i hi)
-        (close-cond d to (endAt s) (seat (suc i) noSlots) (condIn (j .awake) (workOf s) i) (getD (j .awake) i false) (eqb (getD (j .last) i 0 + shorterAt (s .table) i) (s .end)) (jobAt (s .table) j i)
-        (ap isAwake (sym (cond-at I i hi)) ∙ awake-at I i hi))
+        (close-cond d to (endAt s) (seat (suc i) noSlots) (condIn (j .awake) (workOf s) i) (getD (j .awake) i false) (eqb (due (jobAt (s .table) j i)) (s .end)) (eqb (getD (j .last) i 0 + shorterAt (s .table) i) (s .end)) (jobAt (s .table) j i)
+        (ap isAwake (sym (cond-at I i hi)) ∙ awake-at I i hi) (λ w. ap (λ x. eqb (x + shorterAt (s .table) i) (s .end)) (tick i hi w)))

@@ -5,7 +5,8 @@ use Prim.Native.Nat.{ℕ, zero, suc, _<_}
 use native.Mathlib.Omega.{arith}
 use Rattle.ground.specs.Sums.{sumOf}
 use Rattle.ground.proofs.Sums.{sumOf-none}
-use Rattle.rules.specs.State.{resting, Task, nobody, at, become, runsOf, waitsOf, runs, waits}
+use Rattle.rules.specs.State.{resting, Task, nobody, at, become, runs, waits}
+use Rattle.rules.proofs.Cases.{runsOf, waitsOf}
 use Rattle.rules.proofs.Places.{sum-become}
 use Rattle.rules.proofs.Plane.{not-waiting, not-running}
 use Rattle.queue.specs.Queues.{topKey}

@@ -12,9 +12,10 @@ use lib.ListN.{length, getD}
 use lib.Seq.{getD-set-same}
 use Rattle.ground.specs.Sums.{upFrom}
 use Rattle.ground.specs.Tests.{if_then_else_}
-use Rattle.rules.specs.Events.{giveTo, give, bCase, bEvent, bEvents}
+use Rattle.rules.specs.Events.{give, bEvent, bEvents}
 use Rattle.rules.specs.Keys.{waitKey, least}
-use Rattle.rules.specs.State.{resting, running, Task, at, become, amountOf, runsOf, amount, runs}
+use Rattle.rules.specs.State.{resting, running, Task, at, become, amount, runs}
+use Rattle.rules.proofs.Cases.{amountOf, runsOf, giveTo, bCase}
 use Rattle.rules.proofs.Events.{BDone, b-ok}
 use Rattle.rules.proofs.Plane.{Fits}
 use Rattle.queue.specs.Queues.{popOf, topKey, topTask, keyIn}
@@ -28,7 +29,7 @@ use Rattle.state.proofs.Shows.{Crew, Is, in-list, cond-at, run-cond, wa
 
 -- AN IDLE PROCESSOR GOES TO THE TOP OF THE WAITING
 pub give-is : {c : Crew} {w : Work} {l : List Task} → Is c w l → (p : ℕ) → p < w .m → getD (w .slots) p 0 ≡ 0 → Is c (giveTop p w) (give (w .end) (suc p) l)
-unfolding giveTop give giveTo unqueue
+unfolding giveTop give unqueue
 give-is {c} {w} {l} I p hp idle = go (ltb 0 (w .waiting .len)) refl
   where
     S : Tidy (c .count) (c .awake) w
@@ -126,7 +127,6 @@ frame-turns (suc n) w = go (bDue w) (frame-turns n (bOne w))
 
 -- ALL B EVENTS
 b-idle : (now end i : ℕ) (l : List Task) (o w : Option ℕ) (p : ℕ) (a : Bool) → ((k : ℕ) → o ≡ some k → now < k) → bCase end l i (condOf now end o w p a) ≡ l
-unfolding bCase
 b-idle now end i l (some k) w p a h = rw (ne-eqb (k - now) 0 (λ z. omega (arith, h k refl)))
 b-idle now end i l none (some k) p a h = refl
 b-idle now end i l none none p true h = refl
@@ -159,7 +159,6 @@ Left i l = (j : ℕ) → j < i → runs (at j l) ≤ amount (at j l)
 -- a task that is due, with none before it, is the top of the running
 b-turn : {c : Crew} {w : Work} {l : List Task} → Is c w l → (i k : ℕ) → i < c .count → keyIn (w .running) (suc i) ≡ some k → k ≤ w .now → Left i l
     → (bDue w ≡ true) × Is c (bOne w) (bCase (w .end) l i (at i l .cond))
-unfolding bCase
 b-turn {c} {w} {l} I i k hi q h A =
     let S = I .tidy in
     let a = some-held (w .running) (S .running) (suc i) k q in

@@ -8,6 +8,7 @@ pub mod Giving
 pub mod Seizing
 pub mod Passing
 pub mod Views
+pub mod Lasts
 pub mod Closing
 pub mod Opening
 pub mod Step

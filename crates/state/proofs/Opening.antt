@@ -16,9 +16,9 @@ use Rattle.state.specs.declared.Jobs.{Jobs}
 use Rattle.state.specs.declared.State.{State}
 use Rattle.ground.specs.Sums.{sumOf, upFrom}
 use Rattle.ground.specs.Tests.{if_then_else_}
-use Rattle.rules.specs.Keys.{runKeyOf, waitKeyOf}
 use Rattle.rules.specs.Planes.{endOf, enter, limit, falling, sharesOf, enterAs, openTasks}
-use Rattle.rules.specs.State.{Cond, asleep, resting, running, waiting, Task, at, short, be, become, runsOf, waitsOf, runs, waits}
+use Rattle.rules.specs.State.{Cond, asleep, resting, running, waiting, Task, at, short, be, become, lastOf, runs, waits}
+use Rattle.rules.proofs.Cases.{runsOf, waitsOf, runKeyOf, waitKeyOf}
 use Rattle.rules.proofs.Places.{at-other}
 use Rattle.ground.specs.Sums.{times}
 use Rattle.ground.proofs.Times.{by-same}
@@ -36,15 +36,19 @@ use Rattle.state.proofs.Moves.{park-is, place-is}
 use Rattle.state.proofs.Passing.{awake-at}
 use Rattle.ground.proofs.Ranges.{all-one}
 use Rattle.state.proofs.Shows.{Crew, Is, run-key-at, wait-key-at}
+use Rattle.state.proofs.Lasts.{Known, last-kept}
 use Rattle.state.proofs.Views.{crew, IsState, sound-is, put-is}
 
 -- THE END
-pub limit-same : (s : State) (l : List Task) → IsState s l → (tick i : ℕ) → i < s .table .count → limit tick (at i l) ≡ limitAt (s .table) (s .jobs) tick i
-limit-same s l I tick i hi =
-    let e = I .shows .each i hi in
-    let e-last : at i l .last ≡ getD (s .jobs .last) i 0 = ap (λ (t : Task). t .last) e in
-    let e-q : short (at i l) ≡ shorterAt (s .table) i = ap short e in
-    rw (awake-at I i hi, e-last, e-q)
+pub limit-same : (s : State) (l : List Task) → IsState s l → Known l → (tick i : ℕ) → i < s .table .count → limit tick (at i l) ≡ limitAt (s .table) (s .jobs) tick i
+limit-same s l I K tick i hi =
+    let e-q : short (at i l) ≡ shorterAt (s .table) i = ap short (I .shows .each i hi) in
+    rw (awake-at I i hi, e-q) (go (getD (s .jobs .awake) i false) refl)
+  where
+    go : (b : Bool) → getD (s .jobs .awake) i false ≡ b
+        → (if b then lastOf (at i l) + shorterAt (s .table) i else tick + shorterAt (s .table) i) ≡ (if b then getD (s .jobs .last) i 0 else tick) + shorterAt (s .table) i
+    go true w = let k = K i (awake-at I i hi ∙ w) in ap (λ x. x + shorterAt (s .table) i) (last-kept s l I i hi (k .0) (k .1))
+    go false w = refl
 
 least-from : (t : Table) (j : Jobs) (tick e i : ℕ) (u : Task) (l : List Task) → ((x : ℕ) → x < length (u ∷ l) → limit tick (at x (u ∷ l)) ≡ limitAt t j tick (i + x))
     → leastLimit t j tick e (upFrom i (length (u ∷ l))) ≡ min e (endOf tick (u ∷ l))
@@ -56,9 +60,9 @@ least-from t j tick e i u (v ∷ l) h =
     let ih = least-from t j tick (min e (limitAt t j tick i)) (suc i) v l (λ x hx. h (suc x) (omega arith) ∙ (let y : i + suc x ≡ suc i + x = omega arith in ap (limitAt t j tick) y)) in
     ih ∙ omega (arith, here)
 
-pub end-same : (s : State) (l : List Task) → IsState s l → (tick : ℕ) → 0 < s .table .count → endOf tick l ≡ planeEnd (s .table) (s .jobs) tick
+pub end-same : (s : State) (l : List Task) → IsState s l → Known l → (tick : ℕ) → 0 < s .table .count → endOf tick l ≡ planeEnd (s .table) (s .jobs) tick
 unfolding planeEnd
-end-same s l I tick n = go l (I .shows .size) (λ x hx. limit-same s l I tick x (omega (arith, I .shows .size)))
+end-same s l I K tick n = go l (I .shows .size) (λ x hx. limit-same s l I K tick x (omega (arith, I .shows .size)))
   where
     t : Table
     t = s .table

@@ -16,7 +16,8 @@ use Rattle.ground.specs.Sums.{upFrom}
 use Rattle.ground.specs.Tests.{if_then_else_}
 use Rattle.rules.specs.Events.{spend, advance}
 use Rattle.rules.specs.Record.{onProc, slotsOf}
-use Rattle.rules.specs.State.{Cond, Task, at, be, isAwake, procOf, proc}
+use Rattle.rules.specs.State.{Cond, Task, at, be, isAwake, proc}
+use Rattle.rules.proofs.Cases.{procOf}
 use Rattle.rules.proofs.Time.{at-advance, length-advance}
 use Rattle.queue.specs.Queues.{topKey, keyIn}
 use Rattle.queue.proofs.Keys.{some-held, top-least}

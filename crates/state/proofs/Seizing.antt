@@ -11,9 +11,10 @@ use borrow.Author.Tests.{le-leb, lt-leb}
 use lib.Dec.{leb}
 use lib.ListN.{length, getD, set}
 use lib.Seq.{getD-set-same}
-use Rattle.rules.specs.Events.{takeFrom, seize, bEvents, cEventsIn, cEvents, events}
+use Rattle.rules.specs.Events.{seize, bEvents, cEventsIn, cEvents, events}
 use Rattle.rules.specs.Keys.{runKey, waitKey, Best, nope, best, least}
-use Rattle.rules.specs.State.{resting, running, waiting, Task, at, become, amountOf, procOf, runsOf, amount, proc, runs}
+use Rattle.rules.specs.State.{resting, running, waiting, Task, at, become, amount, proc, runs}
+use Rattle.rules.proofs.Cases.{amountOf, procOf, runsOf, takeFrom}
 use Rattle.rules.proofs.Events.{AfterB, b-all}
 use Rattle.rules.proofs.Places.{at-same, at-other, inside, IsLeast, least-is}
 use Rattle.rules.proofs.Plane.{Fits, not-running, Alive, crowded, seize-ok}
@@ -71,7 +72,7 @@ seize-top {c} {w} {l} I n t u a hu out-r out-w up live small =
 pub seize-is : {c : Crew} {w : Work} {l : List Task} → Is c w l → (u a : ℕ) → u < c .count → keyIn (w .running) (suc u) ≡ none → keyIn (w .waiting) (suc u) ≡ none → getD (c .awake) u false ≡ true
     → 0 < a → a ≤ w .end → 0 < w .running .len → w .now < topKey (w .running) → topKey (w .running) - w .now ≤ w .end
     → Is c (seizeTop (suc u) a w) (seize (w .now) u (become u (waiting a) l))
-unfolding seize takeFrom park
+unfolding seize park
 seize-is {c} {w} {l} I u a hu out-r out-w up pos small n live less = go (runner I n)
   where
     P : Is c (park (suc u) a w) (become u (waiting a) l)
@@ -92,7 +93,7 @@ seize-is {c} {w} {l} I u a hu out-r out-w up pos small n live less = go (runner 
 -- C, for the tops of the waiting and of the running
 pub c-is : {c : Crew} {w : Work} {l : List Task} → Is c w l → 0 < w .running .len → (r : Top (w .running)) → 0 < w .waiting .len → (t : Top (w .waiting))
     → w .now < topKey (w .running) → topKey (w .running) - w .now ≤ w .end → Is c (cOne w) (seize (w .now) (t .task) l)
-unfolding cOne seize takeFrom unqueue
+unfolding cOne seize unqueue
 c-is {c} {w} {l} I nr r nw t live small =
     let S = I .tidy in
     let in-t = S .wait-in (suc (t .task)) (topKey (w .waiting)) (t .held) in
@@ -106,7 +107,9 @@ c-is {c} {w} {l} I nr r nw t live small =
     let gone : keyIn (popOf (w .waiting)) (suc (t .task)) ≡ none = rw (t .is) at (pop-removes (w .waiting) (S .waiting) nw .this) in
     let J = seize-top (unqueue-is I nw t) nr r (t .task) (w .end - topKey (w .waiting))
     (in-t .1) (in-t .4) gone (wait-awake S (t .task) (topKey (w .waiting)) (t .held)) live small in
-    rw (least-run I (r .task) (r .is) nr, e-p, e-r, e-t, t .is) (rw (become-again l (t .task) (r .task) _ _ resting (in-list I (t .task) (in-t .1)) ne) at J)
+    let taken : Is c (cOne w) (takeFrom (t .task) l (least (runKey (w .now)) l)) =
+    rw (least-run I (r .task) (r .is) nr, e-p, e-r, e-t, t .is) (rw (become-again l (t .task) (r .task) _ _ resting (in-list I (t .task) (in-t .1)) ne) at J) in
+    taken
 
 pub frame-c : (w : Work) → Frame w (cOne w)
 unfolding cOne seizeTop place park restTop unqueue

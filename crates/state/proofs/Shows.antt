@@ -16,8 +16,9 @@ use Rattle.queue.specs.declared.Queue.{Queue}
 use Rattle.ground.specs.Sums.{upFrom}
 use Rattle.ground.specs.Tests.{if_then_else_}
 use Rattle.rules.specs.Events.{orKey, nextAt}
-use Rattle.rules.specs.Keys.{runKeyOf, waitKeyOf, runKey, waitKey, Best, nope, best, better, least}
+use Rattle.rules.specs.Keys.{runKey, waitKey, Best, nope, best, better, least}
 use Rattle.rules.specs.State.{Cond, running, waiting, Task, nobody, at, be, become}
+use Rattle.rules.proofs.Cases.{runKeyOf, waitKeyOf}
 use Rattle.rules.proofs.Places.{at-same, at-other, length-become, IsLeast, least-is}
 use Rattle.queue.specs.Queues.{topKey, topTask, keyIn, Good}
 use Rattle.queue.proofs.Keys.{none-empty, top-key, top-least, Added, Removed}

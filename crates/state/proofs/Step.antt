@@ -13,10 +13,11 @@ use Rattle.state.specs.declared.State.{State}
 use Rattle.rules.specs.State as Rules
 use Rattle.rules.specs.Calls as Calls
 use Rattle.ground.specs.Tests.{if_then_else_}
-use Rattle.rules.specs.Calls.{moveIn, moving}
+use Rattle.rules.specs.Calls.{moving}
 use Rattle.rules.specs.Events.{advance, nextAt, events}
-use Rattle.rules.specs.Planes.{endOf, falling, sharesOf, openTasks, openAt, openCase, opened}
+use Rattle.rules.specs.Planes.{endOf, falling, sharesOf, openTasks, opened}
 use Rattle.rules.specs.State.{Task, at, runs, waits}
+use Rattle.rules.proofs.Cases.{openCase, moveIn, moveTo}
 use Rattle.rules.proofs.Events.{Stands}
 use Rattle.rules.proofs.Plane.{Fits}
 use Rattle.rules.proofs.Time.{advance-ok, Next, next-ok}
@@ -26,6 +27,7 @@ use Rattle.state.specs.View.{planeOf, view, Sound}
 use Rattle.state.specs.Work.{atTime, eventsOf, nextOf}
 use Rattle.state.proofs.Amounts.{scale-some, tick-before, amount-some, amount-in-time}
 use Rattle.state.proofs.Closing.{close-is}
+use Rattle.state.proofs.Lasts.{Known}
 use Rattle.state.proofs.Opening.{end-same, open-is, opens-now}
 use Rattle.state.proofs.Passing.{advance-is, next-late, slots-same}
 use Rattle.state.proofs.Seizing.{events-is, frame-events}
@@ -37,6 +39,7 @@ pub record InPlane (r : Rules.State) (e : ℕ) : Type 0 where
   pub scale : 0 < r .scale
   pub before : r .now < e * r .scale
   pub stands : Stands (r .m) (r .scale) (e * r .scale - r .now) (r .tasks)
+  pub known : Known (r .tasks)
 
 -- FROM A PLANE THAT IS OPEN
 -- the next instant, before the plane's end: time has passed, no event has happened yet
@@ -74,7 +77,7 @@ module _ (s : State) (l : List Task) (I : IsState s l) (on : s .going ≡ true) 
 
       go : (b : Bool) → eqb to (endAt s) ≡ b → Done (if b then closedOf s to else withWork s (eventsOf (atTime to (workOf s)))) (Calls.after (seenAs s l) (s .end) to b)
       go true q =
-          let C = close-is s l I to in
+          let C = close-is s l I (P .known) to in
           record { sound = C .tidy; same = view-is (closedOf s to) _ C ∙ (unfold closedOf in refl) }
       go false q =
           let k = advance (to - s .now .0) l in
@@ -89,10 +92,10 @@ module _ (s : State) (l : List Task) (I : IsState s l) (on : s .going ≡ true) 
           }
 
   -- the step from an open plane: state, record, soundness
-  pub move-to : (view (Machine.moveTo s (nextOf (workOf s) stop) .state) ≡ Calls.moveTo (seenAs s l) (s .end) (nextAt (endAt s) (s .now .0) l stop) .state)
-      × (Machine.moveTo s (nextOf (workOf s) stop) .rec ≡ Calls.moveTo (seenAs s l) (s .end) (nextAt (endAt s) (s .now .0) l stop) .rec)
+  pub move-to : (view (Machine.moveTo s (nextOf (workOf s) stop) .state) ≡ moveTo (seenAs s l) (s .end) (nextAt (endAt s) (s .now .0) l stop) .state)
+      × (Machine.moveTo s (nextOf (workOf s) stop) .rec ≡ moveTo (seenAs s l) (s .end) (nextAt (endAt s) (s .now .0) l stop) .rec)
       × Sound (Machine.moveTo s (nextOf (workOf s) stop) .state)
-  unfolding Machine.moveTo Calls.moveTo
+  unfolding Machine.moveTo
   move-to = (
     rw (next-same I stop) (after-same .same),
     rw (next-same I stop) (λ i. record { from = s .now .0; to = nextOf (workOf s) stop; slots = sym (slots-same I) i }),
@@ -105,6 +108,7 @@ pub record CanStep (s : State) : Type 0 where
   pub scale : 0 < s .table .scale
   pub shares : (i : ℕ) → i < s .table .count → (0 < getD (s .table .share) i 0) × (getD (s .table .share) i 0 ≤ s .table .scale)
   pub order : take (s .table .count) (s .table .order) ≡ falling (sharesOf (view s .tasks))
+  pub known : Known (view s .tasks)
   pub idle : s .going ≡ false → (i : ℕ) → runs (at i (view s .tasks)) + waits (at i (view s .tasks)) ≡ 0
   pub plane : (e : ℕ) → opened (view s) .plane ≡ some e → InPlane (opened (view s)) e
 
@@ -128,12 +132,12 @@ module _ (s : State) (S : Sound s) (C : CanStep s) where
   e = planeEnd (s .table) (s .jobs) (tickAt s)
 
   ends-alike : endOf tick l ≡ e
-  ends-alike = end-same s l (sound-is s S) tick (C .some-row)
+  ends-alike = end-same s l (sound-is s S) (C .known) tick (C .some-row)
 
   open-case : (b : Bool) → s .going ≡ b
       → ((e : ℕ) → openCase (view s) (if b then some (s .end) else none) .plane ≡ some e → InPlane (openCase (view s) (if b then some (s .end) else none)) e)
       → Opened s (openCase (view s) (if b then some (s .end) else none)) (if b then s else opensTo s tick e)
-  unfolding openCase openAt opensTo
+  unfolding opensTo
   open-case true q P = record { same = refl; sound = S; on = q; table = refl; now = refl }
   open-case false q P =
       record {
@@ -174,6 +178,6 @@ moved-view s h S C hn =
     let P : InPlane (view o) (o .end) = subst (λ (r : Rules.State). InPlane r (o .end)) (sym (O .same)) (C .plane (o .end) (ap (λ (r : Rules.State). r .plane) (sym (O .same)) ∙ on)) in
     let hn′ : o .now .0 < h * o .table .scale = rw (O .table, O .now) hn in
     let M = move-to o (view o .tasks) (sound-is o (O .sound)) (O .on) P (h * o .table .scale) hn′ in
-    let turn : moveIn (opened (view s)) (opened (view s) .plane) h ≡ Calls.moveTo (view o) (o .end) (nextAt (o .end * o .table .scale) (o .now .0) (view o .tasks) (h * o .table .scale)) =
-    ap (λ (r : Rules.State). moveIn r (r .plane) h) (sym (O .same)) ∙ ap (λ (x : Option ℕ). moveIn (view o) x h) on ∙ (unfold moveIn in refl) in
+    let turn : moveIn (opened (view s)) (opened (view s) .plane) h ≡ moveTo (view o) (o .end) (nextAt (o .end * o .table .scale) (o .now .0) (view o .tasks) (h * o .table .scale)) =
+    ap (λ (r : Rules.State). moveIn r (r .plane) h) (sym (O .same)) ∙ ap (λ (x : Option ℕ). moveIn (view o) x h) on in
     (M .0 ∙ ap (λ (x : Calls.Moved). x .state) (sym turn), M .1 ∙ ap (λ (x : Calls.Moved). x .rec) (sym turn), M .2)

@@ -33,9 +33,13 @@ condIn awake w i = condOf (w .now) (w .end) (keyIn (w .running) (suc i)) (keyIn 
 abbrev pub rowOf : Table → ℕ → Row
 rowOf t i = record { period = getD (t .period) i 0; exec = getD (t .exec) i 0; deadline = getD (t .deadline) i 0 }
 
+-- its task's last arrival, if there was one
+abbrev pub lastAt : Jobs → ℕ → Option ℕ
+lastAt j i = if getD (j .arrived) i false then some (getD (j .last) i 0) else none
+
 -- the task in row i, but for its condition
 abbrev pub jobAt : Table → Jobs → ℕ → Task
-jobAt t j i = record { row = rowOf t i; share = getD (t .share) i 0; cond = asleep; arrived = getD (j .arrived) i false; last = getD (j .last) i 0 }
+jobAt t j i = record { row = rowOf t i; share = getD (t .share) i 0; cond = asleep; last = lastAt j i }
 
 abbrev pub taskAt : State → ℕ → Task
 taskAt s i = be (condIn (s .jobs .awake) (workOf s) i) (jobAt (s .table) (s .jobs) i)

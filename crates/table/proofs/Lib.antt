@@ -4,7 +4,4 @@ pub mod Faults
 pub mod Scales
 pub mod Order
 pub mod Padding
-pub mod Sizes
-pub mod Tables
-pub mod Reading
 pub mod Admitted

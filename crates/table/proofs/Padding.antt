@@ -2,9 +2,9 @@
 use mathlib.Core.Path.{_≡_, refl, sym, _∙_, ap}
 use mathlib.Core.List.{List, _++_, map, map-map}
 use Prim.Native.Nat.{ℕ, zero, suc, _+_, _-_, _≤_, _<_}
-use native.Mathlib.Nat.{suc-sub-suc, zero-sub, sub-zero}
+use native.Mathlib.Nat.{suc-sub-suc, zero-sub, sub-zero, min-le-left}
 use native.Mathlib.Omega.{arith}
-use lib.ListN.{length, getD, take, drop, replicate, length-append, length-replicate, List·getD-append}
+use lib.ListN.{length, getD, take, drop, replicate, length-append, length-replicate, length-take, List·getD-append}
 use lib.Seq.{sets, sets-eq, take-at, ext-getD, length-take-le, getD-take, getD-append-add}
 use Rattle.ground.proofs.Ranges.{length-up, at-up}
 use Rattle.ground.specs.Sums.{upFrom}
@@ -48,6 +48,12 @@ padded-length v h = omega (arith, length-append v (replicate (128 - length v) 0)
 
 pub padded-filled : (v : List ℕ) (n : ℕ) → length v ≡ n → Filled (padded v) n
 padded-filled v n e = ap padded (sym (padded-take v n e))
+
+-- a filled column has its 128 places
+pub filled-room : (l : List ℕ) (n : ℕ) → n ≤ 128 → Filled l n → n ≤ length l
+filled-room l n h f =
+    let t : length (take n l) ≤ 128 = omega (arith, length-take n l, min-le-left n (length l)) in
+    omega (arith, ap length f, padded-length (take n l) t)
 
 -- the first n places of a list, one by one
 held-take : (l : List ℕ) (n : ℕ) → n ≤ length l → map (λ i. getD l i 0) (upFrom 0 n) ≡ take n l

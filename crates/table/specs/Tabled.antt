@@ -10,8 +10,13 @@ use Rattle.rules.specs.Scale.{scaleOf, shareOf}
 use Rattle.rules.specs.Planes.{falling}
 use Rattle.rules.specs.Admission.{Verdict, admitVerdict}
 use Rattle.table.specs.declared.Table.{Table}
-use Rattle.table.specs.declared.Tabled.{Tabled}
 use Rattle.table.specs.Rows.{padded, rowsHeld}
+
+-- the answer of admission, the row that it names (from 1; 0 for none), and the table
+pub record Tabled : Type 0 where
+  pub answer : Answer
+  pub row : ℕ
+  pub table : Table
 
 -- the tasks' shares, in row order
 abbrev pub sharesFrom : List Row → List ℕ

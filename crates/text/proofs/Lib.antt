@@ -4,8 +4,6 @@ pub mod Numerals
 pub mod Items
 pub mod Forms
 pub mod Walks
+pub mod Puts
 pub mod Pastes
-pub mod Decimals
-pub mod Records
-pub mod Readback
 pub mod Tables

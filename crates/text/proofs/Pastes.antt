@@ -5,13 +5,13 @@ use mathlib.Core.List.{List, [], _∷_, _++_, append-assoc, append-nil}
 use native.Mathlib.Omega.{arith}
 use lib.ListN.{length, take, length-append, length-take}
 use lib.Seq.{take-nil, take-all}
-use Rattle.ground.specs.Bytes.{le, pasted}
-use Rattle.ground.proofs.Bytes.{length-le, paste-none, length-pasted, paste-then}
+use Rattle.ground.specs.Bytes.{pasted}
+use Rattle.ground.proofs.Bytes.{paste-none, length-pasted, paste-then}
 use Rattle.rules.specs.Table.{Row, rowBytes, tableBytes}
-use Rattle.rules.proofs.Reading.{length-row, length-table}
+use Rattle.rules.proofs.Reading.{length-table}
 use Rattle.text.specs.declared.Item.{Item}
 use Rattle.text.specs.Meaning.{rowBy}
-use Rattle.text.specs.Output.{RowsPut}
+use Rattle.text.specs.Puts.{RowsPut}
 
 pub table-append : (a b : List Row) → tableBytes (a ++ b) ≡ tableBytes a ++ tableBytes b
 unfolding tableBytes

@@ -6,11 +6,10 @@ use Rattle.ground.specs.Tests.{every}
 use Rattle.text.specs.declared.Item.the-variants.{Arrive, Until}
 use Rattle.text.specs.declared.Checked.the-variants.{Good, Broken}
 use Rattle.text.specs.Parts.{splitBy, same, ended, linesOf}
-use Rattle.text.specs.Numbers.{spelledAfter, numeralOf, digits, decimalOf}
+use Rattle.text.specs.Numbers.{spelledAfter, numeralOf}
 use Rattle.text.specs.Lines.{itemOf}
 use Rattle.text.specs.Form.{formFrom, formOf}
 use Rattle.text.specs.Meaning.{itemsOf, processorsIn, rowsIn, rowLinesIn, turnsIn}
-use Rattle.text.specs.Output.{refusedLine}
 
 abbrev p1-text : List ℕ
 p1-text = 112 ∷ 114 ∷ 111 ∷ 99 ∷ 101 ∷ 115 ∷ 115 ∷ 111 ∷ 114 ∷ 115 ∷ 32 ∷ 50 ∷ 10 ∷ 116 ∷ 97 ∷ 115 ∷ 107 ∷ 32 ∷ 52 ∷ 32 ∷ 51 ∷ 32 ∷ 52 ∷ 10 ∷ 116 ∷ 97 ∷ 115 ∷ 107 ∷ 32 ∷ 54 ∷ 32 ∷ 52 ∷ 32 ∷ 54 ∷ 10 ∷ 116 ∷ 97 ∷ 115 ∷ 107 ∷ 32 ∷ 51 ∷ 32 ∷ 49 ∷ 32 ∷ 51 ∷ 10 ∷ 116 ∷ 97 ∷ 115 ∷ 107 ∷ 32 ∷ 52 ∷ 32 ∷ 49 ∷ 32 ∷ 52 ∷ 10 ∷ 97 ∷ 114 ∷ 114 ∷ 105 ∷ 118 ∷ 101 ∷ 32 ∷ 48 ∷ 32 ∷ 49 ∷ 10 ∷ 97 ∷ 114 ∷ 114 ∷ 105 ∷ 118 ∷ 101 ∷ 32 ∷ 48 ∷ 32 ∷ 50 ∷ 10 ∷ 97 ∷ 114 ∷ 114 ∷ 105 ∷ 118 ∷ 101 ∷ 32 ∷ 48 ∷ 32 ∷ 51 ∷ 10 ∷ 97 ∷ 114 ∷ 114 ∷ 105 ∷ 118 ∷ 101 ∷ 32 ∷ 48 ∷ 32 ∷ 52 ∷ 10 ∷ 117 ∷ 110 ∷ 116 ∷ 105 ∷ 108 ∷ 32 ∷ 51 ∷ 10 ∷ []
@@ -145,12 +144,3 @@ p1-row-lines = refl
 late-turns : turnsIn 1 (itemsOf late-text) ≡ record { line = 2; item = Arrive 5 1 } ∷ record { line = 3; item = Arrive 4 1 } ∷ record { line = 4; item = Until 9 } ∷ []
 unfolding splitBy same spelledAfter numeralOf every itemOf ended linesOf itemsOf rowsIn rowLinesIn turnsIn
 late-turns = refl
-
--- refused 14 120
-refused-line : refusedLine 14 120 ≡ 114 ∷ 101 ∷ 102 ∷ 117 ∷ 115 ∷ 101 ∷ 100 ∷ 32 ∷ 49 ∷ 52 ∷ 32 ∷ 49 ∷ 50 ∷ 48 ∷ 10 ∷ []
-unfolding digits
-refused-line = refl
-
-most-decimal : decimalOf 18446744073709551615 ≡ 49 ∷ 56 ∷ 52 ∷ 52 ∷ 54 ∷ 55 ∷ 52 ∷ 52 ∷ 48 ∷ 55 ∷ 51 ∷ 55 ∷ 48 ∷ 57 ∷ 53 ∷ 53 ∷ 49 ∷ 54 ∷ 49 ∷ 53 ∷ []
-unfolding digits
-most-decimal = refl

@@ -17,10 +17,10 @@ use Rattle.text.specs.Lines.{itemOf}
 use Rattle.text.specs.Meaning.{itemsOf, endAt, lineAt, rowBy, rowsIn, isTask, rowLineBy, rowLinesIn, rowLineOf, turnBy, turnsIn, processorsBy, processorsIn}
 use Rattle.text.proofs.Splitting.{piece-more, piece-last, split-some}
 
-abbrev noLine : List ℕ → Line
+abbrev pub noLine : List ℕ → Line
 noLine s = record { item = Other; next = length s }
 
-abbrev wholeLine : List ℕ → ℕ → ℕ → Line
+abbrev pub wholeLine : List ℕ → ℕ → ℕ → Line
 wholeLine s at e = record { item = itemOf (take (e - at) (drop at s)); next = e + 1 }
 
 module _ (s : List ℕ) (at : ℕ) where

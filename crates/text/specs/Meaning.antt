@@ -5,7 +5,6 @@ use Prim.Native.Nat.{ℕ, _+_, _-_}
 use lib.Dec.{ltb}
 use lib.ListN.{length, getD, take, drop}
 use Rattle.ground.specs.Tests.{if_then_else_}
-use Rattle.ground.specs.Bytes.{le}
 use Rattle.rules.specs.Table.{Row, tableBytes}
 use Rattle.text.specs.declared.Item.{Item}
 use Rattle.text.specs.declared.Item.the-variants.{Processors, Task, Arrive, Until, Other}

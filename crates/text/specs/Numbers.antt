@@ -1,8 +1,8 @@
--- DECIMAL NUMBERS, read and written
+-- DECIMAL NUMBERS, as they are read
 use mathlib.Core.Bool.{Bool, true, false, not, _&&_}
-use mathlib.Core.List.{List, [], _∷_, _++_}
-use Prim.Native.Nat.{ℕ, zero, suc, _+_, _*_, _-_, _/_, _%_}
-use lib.Dec.{leb, ltb, eqb}
+use mathlib.Core.List.{List, [], _∷_}
+use Prim.Native.Nat.{ℕ, _+_, _*_, _-_}
+use lib.Dec.{leb, eqb}
 use Rattle.ground.specs.Tests.{if_then_else_, every}
 use Rattle.text.specs.declared.Numeral.{Numeral}
 use Rattle.text.specs.declared.Numeral.the-variants.{Value, Nothing}
@@ -35,12 +35,3 @@ isNumber part = plain part && (every isDigit part && leb (spelled part) mostNumb
 -- the number that a part is, if it is one
 unfoldable pub numeralOf : List ℕ → Numeral
 numeralOf part = if isNumber part then Value (spelled part) else Nothing
-
--- the digits of x, of at most n
-unfoldable pub digits : ℕ → ℕ → List ℕ
-digits zero x = []
-digits (suc n) x = if ltb x 10 then (48 + x) ∷ [] else digits n (x / 10) ++ ((48 + x % 10) ∷ [])
-
--- a number of 64 bits has at most 20 digits
-abbrev pub decimalOf : ℕ → List ℕ
-decimalOf x = digits 20 x

@@ -12,7 +12,7 @@ fn text(name: &[u8]) {
         os::fail(name);
         return;
     }
-    listing::answer_from(fd);
+    program::list_from(fd);
     libc::close(fd);
 }
 

@@ -8,7 +8,8 @@ use Rattle.queue.specs.declared.Queue.{Queue}
 use Rattle.queue.specs.declared.Entry.{Entry}
 use Rattle.ground.specs.Sums.{sumOf, upFrom}
 use Rattle.ground.proofs.Sums.{sumOf-none}
-use Rattle.rules.specs.State.{Cond, asleep, resting, running, waiting, Task, nobody, at, become, amountOf, runsOf, waitsOf, amount}
+use Rattle.rules.specs.State.{Cond, asleep, resting, running, waiting, Task, nobody, at, become, amount}
+use Rattle.rules.proofs.Cases.{amountOf, runsOf, waitsOf}
 use Rattle.rules.proofs.Places.{sum-become}
 use Rattle.rules.proofs.Plane.{not-waiting, not-running}
 use Rattle.queue.specs.Queues.{blank, held, topKey, Good}
@@ -18,8 +19,8 @@ use Rattle.state.specs.Work.{Work, restTop, unqueue}
 use Rattle.state.proofs.Moves.{runner, waiter, rest-is, unqueue-is}
 use Rattle.state.proofs.Seats.{sits-in}
 use Rattle.state.proofs.Shows.{Crew, Is, in-list, run-cond, wait-cond, run-key-at, wait-key-at}
-use Rattle.together.specs.Clauses.{runSum, waitSum}
-use Rattle.together.proofs.Folds.{sum-same, sum-by-places}
+use Rattle.together_queues.specs.Amounts.{runSum, waitSum}
+use Rattle.together_rows.proofs.Folds.{sum-same, sum-by-places}
 
 -- an entry's amount, if it runs and if it waits
 abbrev ranFor : ℕ → Entry → ℕ

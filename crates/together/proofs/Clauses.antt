@@ -14,22 +14,26 @@ use Rattle.ground.specs.Sums.{sumOf, upFrom}
 use Rattle.ground.specs.Tests.{if_then_else_, Says, every}
 use Rattle.ground.proofs.Sums.{sumOf-map, sumOf-at, sumOf-none}
 use Rattle.ground.proofs.Tests.{leb-says, ltb-says, eqb-says, and-says, says-as, is-true, is-false, of-true, every-says}
-use Rattle.rules.specs.Holds.{lastHolds, lastsHold, restsAt, closedHolds, amountFits, idleHolds, sumHolds, ceilTick, soonest, limitHolds, openHolds, planeHolds}
-use Rattle.rules.specs.State.{Cond, asleep, resting, running, waiting, Task, nobody, at, period, short, isAwake, runsOf, waitsOf, runs, waits, awakeShare, amount}
+use Rattle.rules.specs.Holds.{lastHolds, lastsHold, restsAt, closedHolds, amountFits, idleHolds, sumHolds, ceilTick, limitHolds, openHolds, planeHolds}
+use Rattle.rules.specs.State.{Cond, asleep, resting, running, waiting, Task, nobody, at, short, due, soonest, isAwake, runs, waits, awakeShare, amount}
+use Rattle.rules.proofs.Cases.{runsOf, waitsOf}
 use Rattle.rules.proofs.Plane.{not-waiting, not-running}
 use Rattle.queue.specs.Queues.{keyIn}
 use Rattle.queue.specs.Below.{allBelow}
 use Rattle.queue.proofs.Places.{by-places, at-places}
-use Rattle.state.specs.Machine.{endAt, tickAt, workOf}
+use Rattle.state.specs.Machine.{endAt, tickAt, workOf, shorterAt}
 use Rattle.state.specs.View.{taskAt, tasksAt, view, Sound}
 use Rattle.state.proofs.Counts.{waits-len, runs-len}
+use Rattle.state.proofs.Lasts.{Known, due-kept, soonest-kept}
 use Rattle.state.proofs.Marks.{is-says}
 use Rattle.state.proofs.Passing.{awake-at}
 use Rattle.state.proofs.Shows.{in-list, run-cond, wait-cond, run-key-at, wait-key-at}
 use Rattle.state.proofs.Views.{IsState, sound-is}
-use Rattle.together.specs.Clauses.{lastOk, lastsOk, restOk, restsOk, runAmountsOk, waitAmountsOk, idleOk, runSum, waitSum, awakeSum, sumOk, ceilOf, limitOk, limitsOk, amountsOk, closedBy, openBy}
+use Rattle.together_rows.specs.Jobs.{lastOk, lastsOk, restOk, restsOk, ceilOf, soonestOf, limitOk, limitsOk, awakeSum}
+use Rattle.together_queues.specs.Amounts.{runAmountsOk, waitAmountsOk, idleOk, runSum, waitSum, sumOk, amountsOk}
+use Rattle.together.specs.Clauses.{closedBy, openBy}
 use Rattle.together.specs.Holds.{closedOk, openOk, planeOk, arrivalsOk}
-use Rattle.together.proofs.Folds.{below-says, sum-same}
+use Rattle.together_rows.proofs.Folds.{below-says, sum-same}
 use Rattle.together.proofs.Amounts.{amounts-are}
 
 -- two tests that say the same are the same
@@ -81,9 +85,14 @@ module _ (s : State) (S : Sound s) where
     where
       each : (i : ℕ) → i < s .table .count → lastHolds (view s) (at i (tasksAt s)) ≡ lastOk (getD (s .jobs .arrived) i false) (getD (s .jobs .awake) i false) (getD (s .jobs .last) i 0) (tickAt s)
       each i h =
-          ap (λ (w : Bool). if at i (tasksAt s) .arrived then leb (at i (tasksAt s) .last * s .table .scale) (s .now .0) else not w) (awake i h)
-          ∙ ap (λ (t : Task). if t .arrived then leb (t .last * s .table .scale) (s .now .0) else not (getD (s .jobs .awake) i false)) (task i h)
-          ∙ ap (λ (b : Bool). if getD (s .jobs .arrived) i false then b else not (getD (s .jobs .awake) i false)) (last-exact (getD (s .jobs .last) i 0) (s .table .scale) (s .now .0) p)
+          ap (λ (w : Bool). shownOk (at i (tasksAt s) .last) w) (awake i h) ∙ ap (λ (t : Task). shownOk (t .last) (getD (s .jobs .awake) i false)) (task i h) ∙ by (getD (s .jobs .arrived) i false)
+        where
+          shownOk : Option ℕ → Bool → Bool
+          shownOk o w = elim o [ none ↦ not w | some a ↦ leb (a * s .table .scale) (s .now .0) ]
+
+          by : (b : Bool) → shownOk (if b then some (getD (s .jobs .last) i 0) else none) (getD (s .jobs .awake) i false) ≡ lastOk b (getD (s .jobs .awake) i false) (getD (s .jobs .last) i 0) (tickAt s)
+          by true = last-exact (getD (s .jobs .last) i 0) (s .table .scale) (s .now .0) p
+          by false = refl
 
   -- A CLOSED PLANE
   -- nobody runs or waits
@@ -91,16 +100,18 @@ module _ (s : State) (S : Sound s) where
   idle a b j h =
       omega (arith, sumOf-at runs (tasksAt s) j nobody h, sumOf-at waits (tasksAt s) j nobody h, runs-len 0 (workOf s) (tasksAt s) I a, waits-len 0 (workOf s) (tasksAt s) I b)
 
-  rest-same : (i : ℕ) → i < s .table .count
-      → (if isAwake (at i (tasksAt s) .cond) then ltb (tickAt s) (at i (tasksAt s) .last + short (at i (tasksAt s))) else true)
+  rest-same : Known (tasksAt s) → (i : ℕ) → i < s .table .count
+      → (if isAwake (at i (tasksAt s) .cond) then ltb (tickAt s) (due (at i (tasksAt s))) else true)
       ≡ restOk (getD (s .jobs .awake) i false) (getD (s .jobs .last) i 0) (min (getD (s .table .period) i 0) (getD (s .table .deadline) i 0)) (tickAt s)
-  rest-same i h =
-      ap (λ (w : Bool). if w then ltb (tickAt s) (at i (tasksAt s) .last + short (at i (tasksAt s))) else true) (awake i h)
-      ∙ ap (λ (t : Task). if getD (s .jobs .awake) i false then ltb (tickAt s) (t .last + short t) else true) (task i h)
+  rest-same K i h = ap (λ (w : Bool). if w then ltb (tickAt s) (due (at i (tasksAt s))) else true) (awake i h) ∙ by (getD (s .jobs .awake) i false) refl
+    where
+      by : (b : Bool) → getD (s .jobs .awake) i false ≡ b → (if b then ltb (tickAt s) (due (at i (tasksAt s))) else true) ≡ restOk b (getD (s .jobs .last) i 0) (shorterAt (s .table) i) (tickAt s)
+      by true w = let k = K i (awake i h ∙ w) in ap (ltb (tickAt s)) (due-kept s (tasksAt s) I i h (k .0) (k .1))
+      by false w = refl
 
-  pub closed-same : closedHolds (view s) ≡ closedOk s
+  pub closed-same : Known (tasksAt s) → closedHolds (view s) ≡ closedOk s
   unfolding closedHolds closedBy restsOk
-  closed-same =
+  closed-same K =
       ap (λ (b : Bool). eqb (s .now .0 % s .table .scale) 0 && b)
       (same-test ((s .running .len ≡ 0) × ((s .waiting .len ≡ 0) × ((i : ℕ) → i < s .table .count → rest i ≡ true)))
       (every (restsAt (tickAt s)) (tasksAt s)) (eqb (s .running .len) 0 && (eqb (s .waiting .len) 0 && allBelow (s .table .count) rest))
@@ -114,7 +125,7 @@ module _ (s : State) (S : Sound s) where
       rest i = restOk (getD (s .jobs .awake) i false) (getD (s .jobs .last) i 0) (min (getD (s .table .period) i 0) (getD (s .table .deadline) i 0)) (tickAt s)
 
       later : Task → Bool
-      later t = if isAwake (t .cond) then ltb (tickAt s) (t .last + short t) else true
+      later t = if isAwake (t .cond) then ltb (tickAt s) (due t) else true
 
       to : ((j : ℕ) → j < length (tasksAt s) → (runs (at j (tasksAt s)) + waits (at j (tasksAt s)) ≡ 0) × (later (at j (tasksAt s)) ≡ true))
           → (s .running .len ≡ 0) × ((s .waiting .len ≡ 0) × ((i : ℕ) → i < s .table .count → rest i ≡ true))
@@ -122,13 +133,13 @@ module _ (s : State) (S : Sound s) where
         sym (runs-len (s .running .len) (workOf s) (tasksAt s) I refl) ∙ sumOf-none runs nobody (tasksAt s) (λ j h. omega (arith, r j h .0)),
         (
           sym (waits-len (s .waiting .len) (workOf s) (tasksAt s) I refl) ∙ sumOf-none waits nobody (tasksAt s) (λ j h. omega (arith, r j h .0)),
-          λ i h. sym (rest-same i h) ∙ r i (omega (arith, size)) .1,
+          λ i h. sym (rest-same K i h) ∙ r i (omega (arith, size)) .1,
         ),
       )
 
       from : (s .running .len ≡ 0) × ((s .waiting .len ≡ 0) × ((i : ℕ) → i < s .table .count → rest i ≡ true))
           → (j : ℕ) → j < length (tasksAt s) → (runs (at j (tasksAt s)) + waits (at j (tasksAt s)) ≡ 0) × (later (at j (tasksAt s)) ≡ true)
-      from r j h = let b : j < s .table .count = omega (arith, size) in (idle (r .0) (r .1 .0) j h, rest-same j b ∙ r .1 .1 j b)
+      from r j h = let b : j < s .table .count = omega (arith, size) in (idle (r .0) (r .1 .0) j h, rest-same K j b ∙ r .1 .1 j b)
 
   -- AN OPEN PLANE
   -- the keys of a plane whose amounts fit
@@ -226,10 +237,10 @@ module _ (s : State) (S : Sound s) where
       ∙ ap (λ (x : ℕ). sumOk (s .table .scale) (endAt s - s .now .0) x (sumOf awakeShare (tasksAt s))) (amounts-are I)
       ∙ ap (λ (x : ℕ). sumOk (s .table .scale) (endAt s - s .now .0) (runSum (s .now .0) (s .running .keys) (s .running .len) + waitSum (endAt s) (s .waiting .keys) (s .waiting .len)) x) shares-same
 
-  limits-same : every (limitHolds (ceilTick (view s)) (s .end)) (tasksAt s)
+  limits-same : Known (tasksAt s) → every (limitHolds (ceilTick (view s)) (s .end)) (tasksAt s)
       ≡ limitsOk (s .table .period) (s .table .deadline) (s .jobs .awake) (s .jobs .arrived) (s .jobs .last) (ceilOf (s .now .0) (s .table .scale)) (s .end) (s .table .count)
   unfolding limitsOk
-  limits-same = every-below (limitHolds (ceilTick (view s)) (s .end)) _ (tasksAt s) (s .table .count) size each
+  limits-same K = every-below (limitHolds (ceilTick (view s)) (s .end)) _ (tasksAt s) (s .table .count) size each
     where
       c : ℕ
       c = ceilOf (s .now .0) (s .table .scale)
@@ -237,12 +248,20 @@ module _ (s : State) (S : Sound s) where
       each : (i : ℕ) → i < s .table .count → limitHolds (ceilTick (view s)) (s .end) (at i (tasksAt s))
           ≡ limitOk (getD (s .jobs .awake) i false) (getD (s .jobs .arrived) i false) (getD (s .jobs .last) i 0) (getD (s .table .period) i 0) (getD (s .table .deadline) i 0) (ceilOf (s .now .0) (s .table .scale)) (s .end)
       each i h =
-          ap (λ (w : Bool). if w then leb (s .end) (at i (tasksAt s) .last + short (at i (tasksAt s))) else leb (s .end) (soonest c (at i (tasksAt s)) + short (at i (tasksAt s)))) (awake i h)
-          ∙ ap (λ (t : Task). if getD (s .jobs .awake) i false then leb (s .end) (t .last + short t) else leb (s .end) (soonest c t + short t)) (task i h)
+          ap (λ (w : Bool). if w then leb (s .end) (due (at i (tasksAt s))) else leb (s .end) (soonest c (at i (tasksAt s)) + short (at i (tasksAt s)))) (awake i h)
+          ∙ by (getD (s .jobs .awake) i false) refl
+        where
+          by : (b : Bool) → getD (s .jobs .awake) i false ≡ b
+              → (if b then leb (s .end) (due (at i (tasksAt s))) else leb (s .end) (soonest (ceilOf (s .now .0) (s .table .scale)) (at i (tasksAt s)) + short (at i (tasksAt s))))
+              ≡ limitOk b (getD (s .jobs .arrived) i false) (getD (s .jobs .last) i 0) (getD (s .table .period) i 0) (getD (s .table .deadline) i 0) (ceilOf (s .now .0) (s .table .scale)) (s .end)
+          by true w = let k = K i (awake i h ∙ w) in ap (leb (s .end)) (due-kept s (tasksAt s) I i h (k .0) (k .1))
+          by false w =
+              ap (λ (x : ℕ). leb (s .end) (x + short (at i (tasksAt s)))) (soonest-kept s (tasksAt s) I i h (ceilOf (s .now .0) (s .table .scale)))
+              ∙ ap (λ (t : Task). leb (s .end) (soonestOf (getD (s .jobs .arrived) i false) (getD (s .jobs .last) i 0) (getD (s .table .period) i 0) (ceilOf (s .now .0) (s .table .scale)) + short t)) (task i h)
 
-  pub open-same : 0 < s .table .scale → openHolds (view s) (s .end) ≡ openOk s
+  pub open-same : Known (tasksAt s) → 0 < s .table .scale → openHolds (view s) (s .end) ≡ openOk s
   unfolding openHolds openBy amountsOk
-  open-same p = go (ltb (s .now .0) (endAt s)) (ltb-says (s .now .0) (endAt s))
+  open-same K p = go (ltb (s .now .0) (endAt s)) (ltb-says (s .now .0) (endAt s))
     where
       A : Bool
       A = every (λ (t : Task). amountFits (endAt s - s .now .0) (t .cond)) (tasksAt s)
@@ -276,7 +295,7 @@ module _ (s : State) (S : Sound s) where
           ap (λ (b : Bool). b && (sumHolds (s .table .scale) (endAt s - s .now .0) (tasksAt s) && every (limitHolds (ceilTick (view s)) (s .end)) (tasksAt s))) idle-same
           ∙ ap (λ (b : Bool). idleOk (s .table .m) (s .running .len) (s .waiting .len) && (b && every (limitHolds (ceilTick (view s)) (s .end)) (tasksAt s))) (total-same p)
           ∙ ap (λ (b : Bool). idleOk (s .table .m) (s .running .len) (s .waiting .len)
-          && (sumOk (s .table .scale) (endAt s - s .now .0) (runSum (s .now .0) (s .running .keys) (s .running .len) + waitSum (endAt s) (s .waiting .keys) (s .waiting .len)) (awakeSum (s .jobs .awake) (s .table .share) (s .table .count)) && b)) limits-same
+          && (sumOk (s .table .scale) (endAt s - s .now .0) (runSum (s .now .0) (s .running .keys) (s .running .len) + waitSum (endAt s) (s .waiting .keys) (s .waiting .len)) (awakeSum (s .jobs .awake) (s .table .share) (s .table .count)) && b)) (limits-same K)
 
       regroup : (b c d e f : Bool) → (b && c) && (d && (e && f)) ≡ (b && (c && (d && e))) && f
       regroup true true true e f = refl
@@ -288,9 +307,9 @@ module _ (s : State) (S : Sound s) where
       go false n = refl
       go true h = ap (λ (b : Bool). b && X) (amounts-same h) ∙ ap (λ (b : Bool). (B && C) && b) rest ∙ regroup B C D E F
 
-  pub plane-same : 0 < s .table .scale → planeHolds (view s) (view s .plane) ≡ planeOk s
-  plane-same p = go (s .going)
+  pub plane-same : Known (tasksAt s) → 0 < s .table .scale → planeHolds (view s) (view s .plane) ≡ planeOk s
+  plane-same K p = go (s .going)
     where
       go : (b : Bool) → planeHolds (view s) (if b then some (s .end) else none) ≡ (if b then openOk s else closedOk s)
-      go true = open-same p
-      go false = closed-same
+      go true = open-same K p
+      go false = closed-same K

@@ -1,36 +1,35 @@
 -- The test of a state says that it holds together; the blank state fails it, and an admitted one passes
 use mathlib.Core.Path.{_≡_, refl, sym, _∙_, ap, subst}
 use mathlib.Core.Bool.{Bool, true, false}
-use mathlib.Core.Logic.{_↔_}
 use mathlib.Core.Option.{none, some}
 use mathlib.Core.List.{List, [], _∷_, map}
-use Prim.Native.Nat.{ℕ, suc, _+_, _*_, _-_, _≤_, _<_}
-use native.Mathlib.Nat.{zero-div}
+use Prim.Native.Nat.{ℕ, _*_, _-_, _≤_, _<_}
 use native.Mathlib.Omega.{arith}
-use lib.ListN.{length, take, length-replicate}
+use lib.ListN.{length}
 use Rattle.table.specs.declared.Table.{Table}
 use Rattle.state.specs.declared.State.{State}
 use Rattle.ground.specs.Sums.{upFrom}
 use Rattle.ground.specs.Tests.{if_then_else_, Says}
 use Rattle.ground.proofs.Sums.{sumOf-map}
-use Rattle.ground.proofs.Tests.{leb-says, and-says, says-as, is-true, of-true}
-use Rattle.rules.specs.Holds.{planeHolds, holds}
+use Rattle.ground.proofs.Tests.{leb-says, and-says, says-as}
+use Rattle.rules.specs.Holds.{planeHolds}
 use Rattle.rules.specs.Planes.{falling, sharesOf}
 use Rattle.rules.specs.Scale.{scaleOf}
 use Rattle.rules.specs.State.{Task, at}
-use Rattle.rules.specs.Together.{Lasts, Plane}
-use Rattle.rules.specs.Together as Said
-use Rattle.rules.proofs.Holding.{lasts-says, shut-says, going-says, holds-says}
+use Rattle.rules.proofs.Together.{Lasts, Plane}
+use Rattle.rules.proofs.Together as Said
+use Rattle.rules.proofs.Holding.{lasts-says, shut-says, going-says, together-is, holds-is}
 use Rattle.state.specs.Machine.{workOf}
 use Rattle.state.specs.Sound.{soundOf}
 use Rattle.state.specs.View.{taskAt, tasksAt, view, Sound, Sized}
+use Rattle.state.proofs.Lasts.{Known}
 use Rattle.state.proofs.Shows.{shows-all}
 use Rattle.state.proofs.Sound.{sound-says}
 use Rattle.state.proofs.Views.{crew, sound-is}
 use Rattle.together.specs.Holds.{clockOk, planeOk, arrivalsOk, holdsOf, rowsIn, sharesIn, TableOk, OrderOk, Holding}
-use Rattle.together.specs.Tables.{tableOk}
+use Rattle.together_rows.specs.Tables.{tableOk}
 use Rattle.together.proofs.Clauses.{lasts-same, plane-same}
-use Rattle.together.proofs.Folds.{and-then}
+use Rattle.together_rows.proofs.Folds.{and-then, and-after}
 use Rattle.together.proofs.Seats.{seats-of}
 use Rattle.together.proofs.Tables.{scale-low, table-ok-says, order-ok-says}
 use Rattle.rules.specs.Bounds.{clock}
@@ -79,8 +78,8 @@ module _ (s : State) where
       }
 
   -- the rules' tests of the plane and of the last arrivals say their parts
-  plane-says : Sound s → 0 < s .table .scale → Says (Plane (view s) (view s .plane)) (planeOk s)
-  plane-says S p = subst (Says (Plane (view s) (view s .plane))) (plane-same s S p) (go (s .going))
+  plane-says : Sound s → Known (tasksAt s) → 0 < s .table .scale → Says (Plane (view s) (view s .plane)) (planeOk s)
+  plane-says S K p = subst (Says (Plane (view s) (view s .plane))) (plane-same s S K p) (go (s .going))
     where
       go : (b : Bool) → Says (Plane (view s) (if b then some (s .end) else none)) (planeHolds (view s) (if b then some (s .end) else none))
       go true = going-says (view s) (s .end) p
@@ -97,7 +96,7 @@ module _ (s : State) where
       (and-then (TableOk (s .table)) _ (tableOk (s .table)) _ (table-ok-says (s .table)) (λ T.
       (and-says _ _ (clockOk s) _ (leb-says (s .now .0) (clock * s .table .scale))
       (and-then (Sound s) _ (soundOf s) _ (sound-says s z) (λ S.
-      (and-says _ _ (planeOk s) _ (plane-says S (scale-low (s .table) T))
+      (and-after (Plane (view s) (view s .plane)) _ (planeOk s) _ (λ L. plane-says S (L .0 .known) (scale-low (s .table) T))
       (and-says _ _ (arrivalsOk s) _ (arrivals-says S (scale-low (s .table) T)) (order-ok-says (s .table) (T .size .1) o))))))))
     where
       Parts : Type 0
@@ -108,17 +107,11 @@ module _ (s : State) where
       to h =
           let S = h .1 .1 .0 in (
             S,
-            record { table = table-rules (h .0); clock = h .1 .0; seats = seats-of (sound-is s S); lasts = h .1 .1 .1 .1 .0; plane = h .1 .1 .1 .0 },
+            holds-is (view s) (record { table = table-rules (h .0); clock = h .1 .0; seats = seats-of (sound-is s S); lasts = h .1 .1 .1 .1 .0; plane = h .1 .1 .1 .0 }),
             h .1 .1 .1 .1 .1 ∙ ap falling (sym shares-same),
           )
 
       from : Holding s → Parts
-      from h = (rules-table (h .1 .table), (h .1 .clock, (h .0, (h .1 .plane, (h .1 .lasts, h .2 ∙ ap falling shares-same)))))
-
-  -- exactly when the layout is sound, the rules' test passes and the kept order is the falling order
-  pub holding-exactly : Sized s → length (s .table .order) ≡ 128
-      → (holdsOf s ≡ true) ↔ (Sound s × (holds (view s) ≡ true) × (take (s .table .count) (s .table .order) ≡ falling (sharesOf (view s .tasks))))
-  holding-exactly z o = (
-    λ e. (let h = of-true (holdsOf s) (holding-says z o) e in (h .0, is-true (holds (view s)) (holds-says (view s)) (h .1), h .2)),
-    λ h. is-true (holdsOf s) (holding-says z o) (h .0, of-true (holds (view s)) (holds-says (view s)) (h .1), h .2),
-  )
+      from h =
+          let T = together-is (view s) (h .1) in
+          (rules-table (T .table), (T .clock, (h .0, (T .plane, (T .lasts, h .2 ∙ ap falling shares-same)))))

@@ -1,12 +1,7 @@
-pub mod Folds
 pub mod Tables
 pub mod Amounts
 pub mod Seats
 pub mod Clauses
 pub mod Holding
 pub mod Bounds
-pub mod Meeting
 pub mod Deciding
-pub mod Handing
-pub mod Rows
-pub mod Orders

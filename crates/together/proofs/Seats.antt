@@ -1,5 +1,5 @@
 -- The processors of a sound work's tasks: each runs on one of the m, and no two on the same
-use mathlib.Core.Path.{_≡_, refl, _∙_}
+use mathlib.Core.Path.{_≡_, refl, _∙_, ap, subst}
 use mathlib.Core.Bool.{Bool, true, false}
 use mathlib.Core.Option.{Option, none, some}
 use mathlib.Core.List.{List, [], _∷_}
@@ -12,8 +12,9 @@ use Rattle.ground.specs.Sums.{sumOf}
 use Rattle.ground.specs.Tests.{if_then_else_, Says}
 use Rattle.ground.proofs.Sums.{sumOf-none}
 use Rattle.ground.proofs.Tests.{eqb-says}
-use Rattle.rules.specs.State.{Cond, asleep, resting, running, waiting, Task, nobody, at, procOf, runsOf, onOf, proc, runs, on}
-use Rattle.rules.specs.Together.{Seats}
+use Rattle.rules.specs.State.{Cond, asleep, resting, running, waiting, Task, nobody, at, proc, runs, on}
+use Rattle.rules.proofs.Together.{Seats}
+use Rattle.rules.proofs.Cases.{procOf, runsOf, onOf}
 use Rattle.rules.proofs.Places.{anywhere}
 use Rattle.rules.proofs.Plane.{not-running}
 use Rattle.queue.specs.Queues.{keyIn}
@@ -80,7 +81,7 @@ module _ {c : Crew} {w : Work} {l : List Task} (I : Is c w l) where
       go (some k) e =
           let o = sits-in (I .tidy .seats) j k e in
           let z = run-cond I j k b e in
-          rw (z, o .is) (omega arith, omega (arith, o .low))
+          (omega (arith, ap runsOf z, ap procOf z, o .is), omega (arith, ap procOf z, o .is, o .low))
 
   -- who runs on p stands in its slot
   on-slot : (p j : ℕ) → j < length l → 0 < on p (at j l) → getD (w .slots) (p - 1) 0 ≡ suc j
@@ -93,7 +94,7 @@ module _ {c : Crew} {w : Work} {l : List Task} (I : Is c w l) where
       go none e = absurd (omega (arith, q, on-no p (at j l .cond) (not-running (w .now) (at j l .cond) (run-key-at I j b ∙ e))))
       go (some k) e =
           let o = sits-in (I .tidy .seats) j k e in
-          let y : seat (suc j) (w .slots) ≡ p = on-this p (seat (suc j) (w .slots)) (k - w .now) (rw (run-cond I j k b e) at q) in
+          let y : seat (suc j) (w .slots) ≡ p = on-this p (seat (suc j) (w .slots)) (k - w .now) (subst (λ (d : Cond). 0 < onOf p d) (run-cond I j k b e) q) in
           let z : p - 1 ≡ o .place = omega (arith, o .is) in
           rw z (o .holds)
 

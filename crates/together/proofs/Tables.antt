@@ -1,10 +1,9 @@
 -- The table's test says that the table passes admission, and the order's test that the kept order is the falling order
 use mathlib.Core.Path.{_≡_, refl, sym, _∙_, ap, subst}
-use mathlib.Core.Bool.{true, _&&_}
+use mathlib.Core.Bool.{_&&_}
 use mathlib.Core.List.{List, map}
-use Prim.Native.Nat.{ℕ, zero, suc, _+_, _*_, _-_, _/_, _≤_, _<_, _∣_, min}
-use native.Mathlib.Nat.{div-mul-cancel, dvd-mul-left, eq-one-of-dvd-one}
-use native.Mathlib.Numerals.{add-one}
+use Prim.Native.Nat.{ℕ, zero, suc, _+_, _*_, _-_, _/_, _≤_, _<_, _∣_}
+use native.Mathlib.Nat.{div-mul-cancel, dvd-mul-left}
 use native.Mathlib.Omega.{arith}
 use lib.Dec.{leb, ltb, eqb}
 use lib.ListN.{length, getD, take}
@@ -14,22 +13,21 @@ use Rattle.table.specs.declared.Table.{Table}
 use Rattle.ground.specs.Sums.{upFrom}
 use Rattle.ground.specs.Tests.{Says}
 use Rattle.ground.proofs.Ranges.{length-up, at-up}
-use Rattle.ground.proofs.Tests.{leb-says, ltb-says, eqb-says, and-says, or-says, says-as, of-true}
+use Rattle.ground.proofs.Tests.{leb-says, ltb-says, eqb-says, and-says, or-says, says-as}
 use Rattle.rules.specs.Admission.{processorsOk}
 use Rattle.rules.specs.Planes.{falling}
 use Rattle.rules.specs.Reasons.{RowOk}
 use Rattle.rules.specs.Scale.{gcd, scaleOf, shareOf}
 use Rattle.rules.specs.State.{noRow}
-use Rattle.rules.specs.Table.{Row, shorter, rowInRange}
-use Rattle.rules.proofs.Admitting.{row-says}
-use Rattle.rules.proofs.Euclid.{gcd-divides-left}
+use Rattle.rules.specs.Table.{Row, shorter}
 use Rattle.rules.proofs.Falling.{Ahead, falling-length, falling-below, falling-falls, falling-unique}
 use Rattle.rules.proofs.Holding.{processors-says}
 use Rattle.rules.proofs.Scale.{Positive, commonFrom, scale-positive, scale-test}
 use Rattle.state.specs.View.{rowOf}
 use Rattle.together.specs.Holds.{rowsIn, sharesIn, TableOk, OrderOk}
-use Rattle.together.specs.Tables.{rowOk, rowsOk, scaleInRange, sharesOk, commonBelow, scaleOk, tableOk, placesOk, ahead, fallsOk, orderOk}
-use Rattle.together.proofs.Folds.{and-then, below-says}
+use Rattle.together_rows.specs.Tables.{rowsOk, scaleInRange, sharesOk, commonBelow, scaleOk, tableOk, placesOk, ahead, fallsOk, orderOk}
+use Rattle.together_rows.proofs.Tables.{row-ok-says}
+use Rattle.together_rows.proofs.Folds.{and-then, below-says}
 use Rattle.rules.specs.Bounds.{mostScale}
 
 -- THE ROWS AS A LIST
@@ -52,19 +50,7 @@ common-rows t l (suc n) =
     let z : 0 + n ≡ n = omega arith in
     ap (λ (g : ℕ). gcd g (l / shorter (rowOf t n))) (common-rows t l n) ∙ sym (rw z at (common-last (rowOf t) l l 0 n))
 
--- one row more
-pub common-more : (l : ℕ) (ps ds : List ℕ) (i : ℕ) → commonBelow l ps ds (i + 1) ≡ gcd (commonBelow l ps ds i) (l / min (getD ps i 0) (getD ds i 0))
-unfolding commonBelow
-common-more l ps ds i = rw add-one
-
-pub common-none : (l : ℕ) (ps ds : List ℕ) → commonBelow l ps ds 0 ≡ l
-unfolding commonBelow
-common-none l ps ds = refl
-
 -- ROWS
-pub row-ok-says : (r : Row) → Says (RowOk r) (rowOk (r .period) (r .exec) (r .deadline))
-row-ok-says r = and-says _ _ (rowInRange r) _ (row-says r) (leb-says (r .exec) (shorter r))
-
 rows-ok-says : (t : Table) → Says ((i : ℕ) → i < t .count → RowOk (rowOf t i)) (rowsOk (t .period) (t .exec) (t .deadline) (t .count))
 unfolding rowsOk
 rows-ok-says t = below-says (λ i. RowOk (rowOf t i)) _ (t .count) (λ i h. row-ok-says (rowOf t i))
@@ -199,15 +185,3 @@ module _ (t : Table) (few : t .count ≤ 128) (room : length (t .order) ≡ 128)
       (and-says _ _ (placesOk (t .order) (t .count)) _
       (below-says (λ k. getD (t .order) k 0 < t .count) _ (t .count) (λ k h. ltb-says (getD (t .order) k 0) (t .count)))
       (below-says (λ k. Ahead (t .share) (getD (t .order) k 0) (getD (t .order) (k + 1) 0)) _ (t .count - 1) (λ k h. ahead-says (t .share) (getD (t .order) k 0) (getD (t .order) (k + 1) 0))))
-
--- every entry of a kept order is a place of a row
-pub order-places : (t : Table) → t .count ≤ 128 → length (t .order) ≡ 128 → orderOk t ≡ true → (i : ℕ) → i < t .count → getD (t .order) i 0 < t .count
-order-places t few room e = from-kept t few room (of-true (orderOk t) (order-ok-says t few room) e) .0
-
--- the same places, however they were found
-pub ahead-same : (xs : List ℕ) (i i′ j j′ : ℕ) → i ≡ i′ → j ≡ j′ → ahead xs i j ≡ ahead xs i′ j′
-ahead-same xs i i′ j j′ p q = ap (λ (x : ℕ). ahead xs x j) p ∙ ap (λ (x : ℕ). ahead xs i′ x) q
-
--- 1 has no other divisor
-pub gcd-one : (d : ℕ) → gcd 1 d ≡ 1
-gcd-one d = eq-one-of-dvd-one (gcd-divides-left 1 d)

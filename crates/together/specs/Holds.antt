@@ -1,6 +1,6 @@
 -- A STATE THAT HOLDS TOGETHER, clause by clause, as a test of the state that the code keeps
 use mathlib.Core.Path.{_≡_}
-use mathlib.Core.Bool.{Bool, _&&_}
+use mathlib.Core.Bool.{Bool, true, _&&_}
 use mathlib.Core.List.{List, map}
 use Prim.Native.Nat.{ℕ, _*_, _≤_, _<_}
 use lib.Dec.{leb}
@@ -12,15 +12,16 @@ use Rattle.rules.specs.Table.{Row}
 use Rattle.rules.specs.Scale.{scaleOf, shareOf}
 use Rattle.rules.specs.Planes.{falling, sharesOf}
 use Rattle.rules.specs.Reasons.{RowOk}
-use Rattle.rules.specs.Together.{Together}
+use Rattle.rules.specs.Holds.{holds}
 use Rattle.queue.specs.declared.Queue.{Queue}
 use Rattle.table.specs.declared.Table.{Table}
 use Rattle.state.specs.declared.State.{State}
 use Rattle.state.specs.Machine.{tickAt}
 use Rattle.state.specs.View.{rowOf, view, Sound}
 use Rattle.state.specs.Sound.{soundOf}
-use Rattle.together.specs.Tables.{tableOk, orderOk}
-use Rattle.together.specs.Clauses.{lastsOk, closedBy, openBy}
+use Rattle.together_rows.specs.Tables.{tableOk, orderOk}
+use Rattle.together_rows.specs.Jobs.{lastsOk}
+use Rattle.together.specs.Clauses.{closedBy, openBy}
 use Rattle.rules.specs.Bounds.{clock, mostScale}
 
 -- "the instant is within the clock"
@@ -87,4 +88,4 @@ OrderOk t = take (t .count) (t .order) ≡ falling (sharesIn t)
 -- WHAT THE TEST SAYS
 -- the queues, the flags and the slots agree, the rules' own "holds together" is true of the view, and the kept order is the falling order
 abbrev pub Holding : State → Type 0
-Holding s = Sound s × Together (view s) × (take (s .table .count) (s .table .order) ≡ falling (sharesOf (view s .tasks)))
+Holding s = Sound s × (holds (view s) ≡ true) × (take (s .table .count) (s .table .order) ≡ falling (sharesOf (view s .tasks)))

@@ -1,19 +1,13 @@
 // Does a state that is handed in hold together? Any state: every field may have any value of its type.
 ghost use mathlib.Core.Path.{_≡_};
 ghost use Rattle.queue.specs.Lent.{old};
-ghost use Rattle.together.specs.Tables.{tableOf};
+ghost use Rattle.together_rows.specs.Tables.{tableOf};
 ghost use Rattle.together.specs.Holds.{stateOf, holdsOf};
-use columns::order_ok;
-use columns::table_ok;
 use ground::Instant;
-use planes::closed_ok;
-use planes::open_ok;
-
-mod columns;
-mod jobs;
-mod keys;
-mod members;
-mod planes;
+use together_queues::closed_ok;
+use together_queues::open_ok;
+use together_rows::order_ok;
+use together_rows::table_ok;
 
 // Does the state of these parts hold together? Bounds first, products later.
 pub fn holds_lent(
@@ -42,7 +36,7 @@ pub fn holds_lent(
     ensures is { λ r. ⌜ r ≡ holdsOf (stateOf (tableOf (now (period .entry)) (now (exec .entry)) (now (deadline .entry)) (now (share .entry)) (now (order .entry)) count m scale)
         (present .0) going end (now (awake .entry)) (now (arrived .entry)) (now (last .entry)) (old rk rt rn) (old wk wt wn) (now (slots .entry))) ⌝ }
 {
-    if !table_ok(
+    let front = table_ok(
         period,
         exec,
         deadline,
@@ -51,10 +45,13 @@ pub fn holds_lent(
         m,
         scale,
         present,
+        going,
+        end,
         arrived,
         awake,
         last,
-    ) {
+    );
+    if !front.ok {
         return false;
     }
     if !order_ok(share, order, count) {
@@ -62,17 +59,13 @@ pub fn holds_lent(
     }
     if going {
         return open_ok(
-            period,
-            deadline,
-            share,
+            front.shares,
             count,
             m,
             scale,
             present,
             end,
             awake,
-            arrived,
-            last,
             rk,
             rt,
             rn,
@@ -82,21 +75,5 @@ pub fn holds_lent(
             slots,
         );
     }
-    closed_ok(
-        period,
-        deadline,
-        count,
-        m,
-        scale,
-        present,
-        awake,
-        last,
-        rk,
-        rt,
-        rn,
-        wk,
-        wt,
-        wn,
-        slots,
-    )
+    closed_ok(count, m, scale, present, rk, rt, rn, wn, slots)
 }

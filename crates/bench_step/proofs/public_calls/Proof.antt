@@ -1,9 +1,9 @@
 use borrow.Author.Needs.{needs}
 use denote.Ref.{now}
-use mathlib.Core.Path.{_≡_, ap, _∙_}
+use mathlib.Core.Path.{ap, _∙_}
 use lib.ListN.{length}
 use Rattle.state.specs.declared.State.{State}
-use Rattle.calls.specs.declared.Admitted.{Admitted}
+use Rattle.admission.specs.declared.Admitted.{Admitted}
 use Rattle.bench_step.specs.Made.{madeAll}
 use Rattle.bench_step.proofs.public_calls.Statement.{statement}
 use Rattle.bench_step.proofs.public_calls.Tie as tie

@@ -39,14 +39,14 @@ add-r : tie.Need-add-r Inv-loop μ-loop
 add-r c =
     let k = c .before .before .before .loop in
     let a = c .before .before .before .before .before in
-    omega (arith, turn-fits (a .args .width) (k .i) (k .r) (c .wide .result) (a .pre .1) (c .before .before .loop-test .taken) (k .inv .0) (k .inv .2) (c .wide .ensures .1))
+    omega (arith, turn-fits (a .args .width) (k .i) (k .r) (c .wide-byte .result) (a .pre .1) (c .before .before .loop-test .taken) (k .inv .0) (k .inv .2) (c .wide-byte .ensures .1))
 
 loop-again : tie.Need-loop-again Inv-loop μ-loop
 loop-again c =
     let k = c .before .before .before .loop in
     let a = c .before .before .before .before .before in
     let l = a .args .bytes .now in
-    let e = c .wide .ensures in
+    let e = c .wide-byte .ensures in
     let b : getD l (a .args .at + (k .i - 1)) 0 < 256 = subst (λ (x : ℕ). x < 256) (e .0) (e .1) in
     let t = number-turn l (a .args .at) (a .args .width) (k .i) (k .r) (c .before .before .loop-test .taken) (k .inv .0) (a .pre .0) b (k .inv .1, k .inv .2) in
     (omega arith, omega (arith, t .0, e .0), omega (arith, t .1, e .0))

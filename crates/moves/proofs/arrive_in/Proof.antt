@@ -4,7 +4,7 @@ use mathlib.Core.Path.{refl}
 use native.Mathlib.Omega.{arith}
 use Rattle.moves.specs.Lent.{arrivalState}
 use Rattle.moves.proofs.Moving.{end-fits}
-use Rattle.moves.proofs.Arriving.{arrive-scale, arrive-later, arrive-fits, arrive-joins, arrived-off, arrived-on}
+use Rattle.moves.proofs.Arriving.{arrive-row, arrive-scale, arrive-later, arrive-fits, arrive-joins, arrived-off, arrived-on}
 use Rattle.moves.proofs.arrive_in.Statement.{statement}
 use Rattle.moves.proofs.arrive_in.Tie as tie
 
@@ -42,5 +42,13 @@ returns-2 c =
 pub arrive-in-spec : {M : Type 1} → statement M
 arrive-in-spec =
     tie.close
-    (tie.spec div-tick (λ c. search needs) (λ c. search needs) (λ c. search needs) (λ c. search needs) (λ c. search needs) (λ c. search needs) (λ c. search needs) (λ c. search needs)
+    (tie.spec div-tick
+    (λ c. let p = c .before .before .before .pre .1 in let r = arrive-row _ _ (p .0) (p .1) .1 in search (needs, r))
+    (λ c. let p = c .before .before .before .pre .1 in let r = arrive-row _ _ (p .0) (p .1) .1 in search (needs, r))
+    (λ c. let p = c .before .before .before .before .pre .1 in let r = arrive-row _ _ (p .0) (p .1) .1 in search (needs, r))
+    (λ c. let p = c .before .before .before .before .pre .1 in let r = arrive-row _ _ (p .0) (p .1) .1 in search (needs, r))
+    (λ c. let p = c .before .before .before .before .pre .1 in let r = arrive-row _ _ (p .0) (p .1) .1 in search (needs, r))
+    (λ c. let p = c .before .before .before .before .pre .1 in let r = arrive-row _ _ (p .0) (p .1) .1 in search (needs, r))
+    (λ c. let p = c .before .before .before .before .pre .1 in let r = arrive-row _ _ (p .0) (p .1) .1 in search (needs, r))
+    (λ c. let p = c .before .before .before .before .pre .1 in let r = arrive-row _ _ (p .0) (p .1) .1 in search (needs, r))
     returns mul-close sub-ticks mul-amount join-requires returns-2)

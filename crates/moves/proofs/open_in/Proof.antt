@@ -1,4 +1,3 @@
-use borrow.Author.Needs.{needs}
 use Rattle.moves.specs.Lent.{stepState}
 use Rattle.moves.proofs.Opening.{can-open, can-open-to, opened-on, opened-off}
 use Rattle.moves.proofs.open_in.Statement.{statement}

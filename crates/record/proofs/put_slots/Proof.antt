@@ -48,7 +48,7 @@ loop-again c =
       omega arith,
       c .before .before .put .kept .0 ∙ k .inv .1,
       c .before .before .put .ensures
-          ∙ ap (λ (x : ℕ). pasted (k .room) (16 + 2 * k .k) (le 2 x)) (slot .wide .ensures)
+          ∙ ap (λ (x : ℕ). pasted (k .room) (16 + 2 * k .k) (le 2 x)) (slot .wide-half .ensures)
           ∙ more (k .room) (s .args .room .now) (s .args .t2) (k .k) n (omega (arith, s .pre)) (omega arith) (k .inv .2),
     )
 

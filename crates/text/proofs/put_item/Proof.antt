@@ -1,6 +1,6 @@
 use mathlib.Core.Path.{sym, subst}
 use borrow.Author.Needs.{needs}
-use Rattle.text.specs.Output.{RowsPut}
+use Rattle.text.specs.Puts.{RowsPut}
 use Rattle.text.specs.Meaning.{rowBy}
 use Rattle.text.specs.declared.Item.{Item}
 use Rattle.text.proofs.Pastes.{rows-none, rows-as}

@@ -10,7 +10,7 @@ use Rattle.ground.proofs.Bytes.{paste-none}
 use Rattle.rules.specs.Table.{Row, tableBytes}
 use Rattle.text.specs.Meaning.{itemsOf, lineAt, rowBy, rowsIn, tableOf}
 use Rattle.text.specs.declared.Line.{Line}
-use Rattle.text.proofs.Records.{counted}
+use Rattle.text.proofs.Puts.{counted}
 use Rattle.text.proofs.Walks.{next-later, next-within, rows-walk-by, rows-end}
 use Rattle.text.proofs.Pastes.{rows-turn}
 use Rattle.text.proofs.table.Statement.{statement}

@@ -6,14 +6,14 @@ use Rattle.figures.proofs.orders.all.Statement.{statement}
 use Rattle.figures.proofs.orders.all.Tie as tie
 
 abbrev Inv-loop : tie.InvT-loop
-Inv-loop s state₀ kept₀ table₀ len₀ at₀ state kept table len at = (at ≤ length s + 1) × (length state ≡ 6745) × (length kept ≡ 6745) × (length table ≡ 1548)
+Inv-loop s table₀ held₀ at₀ table held at = (at ≤ length s + 1) × (length table ≡ 1548)
 
 abbrev μ-loop : tie.MeasureT-loop
-μ-loop s state₀ kept₀ table₀ len₀ at₀ state kept table len at = length s + 1 - at
+μ-loop s table₀ held₀ at₀ table held at = length s + 1 - at
 
 pub all-spec : {M : Type 1} → statement M
 all-spec =
     tie.close
-    (tie.spec Inv-loop μ-loop (λ c. search needs) (λ c κs. search needs) (λ c. search needs) (λ c. search needs)
-    (λ c. search needs) (λ c. search needs) (λ c. search needs) (λ c. search needs) (λ c κs. search needs)
+    (tie.spec Inv-loop μ-loop (λ c. search needs) (λ c κs. search needs) (λ c. search needs) (λ c κs. search needs) (λ c. search needs) (λ c. search needs)
+    (λ c. search needs) (λ c. search needs) (λ c κs. search needs)
     (λ c. search needs) (λ c. search needs) (λ c. search needs) (λ c. search needs))

@@ -1,3 +1,0 @@
-pub mod Columns
-pub mod Image
-pub mod Storing

@@ -1,0 +1,4 @@
+pub mod Lent
+pub mod Arrive
+pub mod Step
+pub mod Run

@@ -1,0 +1,4 @@
+pub mod Course
+pub mod Output
+pub mod Figures
+pub mod Sentences

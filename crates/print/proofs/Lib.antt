@@ -1,0 +1,4 @@
+pub mod Decimals
+pub mod Records
+pub mod Readback
+pub mod Lines

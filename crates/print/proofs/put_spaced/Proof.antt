@@ -1,0 +1,24 @@
+use mathlib.Core.List.{[], _∷_}
+use native.Mathlib.Omega.{arith}
+use borrow.Author.Needs.{needs}
+use Rattle.print.specs.Decimals.{decimalOf}
+use Rattle.text.proofs.Puts.{put-then}
+use Rattle.print.proofs.put_spaced.Statement.{statement}
+use Rattle.print.proofs.put_spaced.Tie as tie
+
+put-byte-requires : tie.Need-put-byte-requires
+put-byte-requires c κs = search needs
+
+put-decimal-requires : tie.Need-put-decimal-requires
+put-decimal-requires c κs = search needs
+
+same-length : tie.Need-same-length
+same-length c = search needs
+
+returns : tie.Need-returns
+returns c =
+    let a = c .before .before .before .before .before .before .before .before .before .args in
+    put-then (a .out .now) _ _ (a .at) _ _ (32 ∷ []) (decimalOf (a .x)) (omega (arith, c .before .before .before .before .before .before .before .before .before .pre)) (c .before .before .before .before .before .before .put-byte .ensures) (c .before .before .put-decimal .ensures)
+
+pub put-spaced-spec : {M : Type 1} → statement M
+put-spaced-spec = tie.close (tie.spec put-byte-requires put-decimal-requires same-length returns)

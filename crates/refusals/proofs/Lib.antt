@@ -1,0 +1,4 @@
+pub mod Checking
+pub mod Agreeing
+pub mod Arrivals
+pub mod Moves

@@ -1,0 +1,4 @@
+pub mod Bounds
+pub mod Meeting
+pub mod Entries
+pub mod Planes

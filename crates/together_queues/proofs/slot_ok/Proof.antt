@@ -1,0 +1,13 @@
+-- A processor, or idle
+use borrow.Author.Tests.{lt-ltb, le-ltb}
+use Rattle.together_queues.proofs.slot_ok.Statement.{statement}
+use Rattle.together_queues.proofs.slot_ok.Tie as tie
+
+returns : tie.Need-returns
+returns c = rw (lt-ltb _ _ (c .if1 .taken))
+
+returns-2 : tie.Need-returns-2
+returns-2 c = rw (le-ltb _ _ (c .if1 .left))
+
+pub slot-ok-spec : {M : Type 1} → statement M
+slot-ok-spec = tie.close (tie.spec returns returns-2)
