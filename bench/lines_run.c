@@ -1,4 +1,5 @@
-// A run as text: the program's loop, which steps and formats, and the formatting alone, each against plain C on the same records.
+// A text to its listing: the program's loop, from the text on, and the formatting alone, each against plain C on the same records.
+// The plain C gets the table's bytes and reads no text.
 #define _POSIX_C_SOURCE 199309L
 #include <stdio.h>
 #include <string.h>
@@ -9,7 +10,7 @@
 
 // bench_step
 size_t record_lines(uint8_t *, size_t, const uint8_t *, size_t, size_t, size_t);
-uint64_t public_lines(const uint8_t *, size_t, size_t, const uint64_t *, size_t, uint64_t, uint8_t *);
+uint64_t public_lines(const uint8_t *, size_t, uint8_t *);
 
 enum { PART = 474, REPEATS = 7 };
 
@@ -42,7 +43,20 @@ static size_t plain_lines(uint8_t *out, const uint8_t *room, size_t n, size_t m)
 }
 
 static uint8_t table[1536], room[48 * PART], lines[65536], plain_out[65536];
-static uint64_t arrivals[127];
+static char text[65536];
+
+// The text of the table, of arrivals of all tasks but the last, and of the tick to run to; its length.
+static size_t write_text(size_t len, unsigned n, unsigned m) {
+    char *at = text + sprintf(text, "processors %u\n", m);
+    for (size_t row = 0; row < len; row += 12) {
+        uint32_t number[3];
+        memcpy(number, table + row, 12);
+        at += sprintf(at, "task %u %u %u\n", number[0], number[1], number[2]);
+    }
+    for (unsigned task = 1; task < n; task++) at += sprintf(at, "arrive 0 %u\n", task);
+    at += sprintf(at, "until %llu\n", (unsigned long long)LONG);
+    return (size_t)(at - text);
+}
 
 // The whole run, part by part; how many records.
 static size_t plain_text(size_t len, unsigned n, unsigned m, size_t *last) {
@@ -70,15 +84,15 @@ static size_t plain_text(size_t len, unsigned n, unsigned m, size_t *last) {
 
 int main(void) {
     static const unsigned tasks[] = {8, 32, 128}, processors[] = {2, 4, 16};
-    for (unsigned i = 0; i < 127; i++) arrivals[i] = i + 1;
-    printf("  n   m  lines | steps and lines: plain C, the program's loop | lines alone: plain C, put_records   (ns a line, ratio)\n");
+    printf("  n   m  lines | a listing: plain C, the program's loop | lines alone: plain C, put_records   (ns a line, ratio)\n");
     for (int a = 0; a < 3; a++)
         for (int b = 0; b < 3; b++) {
             unsigned n = tasks[a], m = processors[b];
             size_t len = long_table(table, n, m), records = 0, last = 0, bytes = 0;
             double plain = 0, loop = 0, plain_alone = 0, alone = 0;
             BEST(plain, records = plain_text(len, n, m, &last));
-            BEST(loop, public_lines(table, len, m, arrivals, n - 1, LONG, lines));
+            size_t size = write_text(len, n, m);
+            BEST(loop, public_lines((const uint8_t *)text, size, lines));
             if (memcmp(lines, plain_out, last)) {
                 printf("the texts differ\n");
                 return 1;

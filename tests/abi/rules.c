@@ -209,12 +209,12 @@ uint32_t rules_arrive(World *w, uint64_t task) {
     return 0;
 }
 
-// A state that holds together. The offsets are those of include/robinrow.h.
+// A state that holds together. The offsets are those of the struct in include/robinrow.h, whose numbers are the least byte first.
 
 enum {
-    PERIOD = 0, EXEC = 512, DEADLINE = 1024, SHARE = 1536, LAST = 2560, RUN_KEYS = 3584, WAIT_KEYS = 4608, ORDER = 5632,
-    RUN_TASKS = 5888, WAIT_TASKS = 6144, SLOTS = 6400, COUNT = 6432, PROCS = 6440, SCALE = 6448, NOW = 6456, END = 6464,
-    RUN_LEN = 6472, WAIT_LEN = 6480, AWAKE = 6488, ARRIVED = 6616, GOING = 6744
+    SHARE = 0, LAST = 1024, RUN_KEYS = 2048, WAIT_KEYS = 3072, COUNT = 4096, PROCS = 4104, SCALE = 4112, NOW = 4120, END = 4128,
+    RUN_LEN = 4136, WAIT_LEN = 4144, PERIOD = 4152, EXEC = 4664, DEADLINE = 5176, ORDER = 5688, RUN_TASKS = 5944, WAIT_TASKS = 6200,
+    SLOTS = 6456, AWAKE = 6488, ARRIVED = 6616, GOING = 6744
 };
 
 // "table, m, L and shares pass admission"

@@ -6,7 +6,7 @@
 #include <stddef.h>
 #include <stdint.h>
 
-enum { TASKS = 128, PROCESSORS = 16, RECORD = 48, STATE = 6745 };
+enum { TASKS = 128, PROCESSORS = 16, RECORD = 48, STATE = 6752 };
 
 typedef enum { ASLEEP, RUNNING, WAITING, RESTING } Condition;
 
@@ -34,7 +34,7 @@ uint32_t rules_admit(const uint8_t *table, size_t len, size_t m, World *w, uint3
 uint32_t rules_arrive(World *w, uint64_t task);
 uint32_t rules_step(World *w, uint64_t horizon, size_t room_len, uint8_t record[RECORD]);
 
-// "A state that holds together": reads STATE bytes by the documented layout, and sets the world where they do.
+// "A state that holds together": reads STATE bytes by the layout of include/robinrow.h, and sets the world where they do.
 bool rules_hold(const uint8_t *bytes, World *w);
 
 // Copies the rows that there are; the others mean nothing.

@@ -1,36 +1,32 @@
 //! P1 through the library: four tasks on two processors, all arriving at tick 0, to tick 3.
-use robinrow::{Refusal, Row, Scheduler, RECORD_SIZE};
+use std::error::Error;
+
+use robinrow::{Record, Row, State};
 
 const PROCESSORS: usize = 2;
-const ROWS: [(u32, u32, u32); 4] = [(4, 3, 4), (6, 4, 6), (3, 1, 3), (4, 1, 4)];
+const ROWS: [Row; 4] = [
+    Row::new(4, 3, 4),
+    Row::new(6, 4, 6),
+    Row::new(3, 1, 3),
+    Row::new(4, 1, 4),
+];
 
-fn main() -> Result<(), Refusal> {
-    let table: Vec<u8> = ROWS
-        .iter()
-        .flat_map(|&(period, execution, deadline)| {
-            Row {
-                period,
-                execution,
-                deadline,
-            }
-            .to_bytes()
-        })
-        .collect();
-    let mut scheduler = Scheduler::admit(&table, PROCESSORS)?;
-    println!("scale {}", scheduler.scale());
+fn main() -> Result<(), Box<dyn Error>> {
+    let mut state = State::admit(&ROWS, PROCESSORS)?;
+    println!("scale {}", state.scale());
     for task in 1..=ROWS.len() as u64 {
-        scheduler.arrive(task)?;
+        state.arrive(task)?;
     }
-
-    // the first record by a step, the others by a run
-    let first = scheduler.step(3)?;
-    let mut room = [0; 16 * RECORD_SIZE];
-    for record in std::iter::once(first).chain(scheduler.run(3, &mut room)?) {
-        let tasks: Vec<String> = record.slots[..PROCESSORS]
-            .iter()
-            .map(u16::to_string)
-            .collect();
-        println!("{} {} {}", record.from, record.to, tasks.join(" "));
+    // a room full of records at a time, until the present is the horizon
+    let mut room = [Record::default(); 16];
+    while state.now() < 3 * state.scale() {
+        for record in state.run(3, &mut room)? {
+            print!("{} {}", record.from, record.to);
+            for task in &record.slots[..PROCESSORS] {
+                print!(" {task}");
+            }
+            println!();
+        }
     }
     Ok(())
 }
