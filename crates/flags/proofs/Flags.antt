@@ -24,7 +24,8 @@ bit-flag zero h = refl
 bit-flag (suc zero) h = refl
 bit-flag (suc (suc x)) h = let z = of-true (leb (suc (suc x)) 1) (leb-says (suc (suc x)) 1) h in absurd (omega (arith, z))
 
-both : (a b : Bool) → (a && b) ≡ true → (a ≡ true) × (b ≡ true)
+-- two tests that pass together pass each
+pub both : (a b : Bool) → (a && b) ≡ true → (a ≡ true) × (b ≡ true)
 both true b e = (refl, e)
 both false b e = let z : ⊥ = of-true false (λ w. w) e in absurd z
 

@@ -22,7 +22,8 @@ use Rattle.demands.specs.Demands.{OneOf}
 use Rattle.demands.proofs.Demands.{demand-1, demand-2}
 use Rattle.robinrow_c.specs.Struct.{Struct, flagged, stateOf, structOf}
 use Rattle.robinrow_c.specs.Exports.{admitNumber, admitStruct, arriveNumber, stepNumber, runNumber, runStruct, Numbers, together, ArrivesInC, StepsInC, RulesInC}
-use Rattle.robinrow_c.proofs.Struct.{struct-flagged, struct-state, state-struct, both}
+use Rattle.flags.proofs.Flags.{both}
+use Rattle.robinrow_c.proofs.Struct.{struct-flagged, struct-state, state-struct}
 use Rattle.robinrow_c.proofs.Refusals.{by-flags, not-done}
 use Rattle.robinrow_c.proofs.InC.{arrive-number, arrive-struct, step-number, step-struct, step-record, zero-done}
 

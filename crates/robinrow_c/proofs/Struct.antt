@@ -6,10 +6,9 @@ use Prim.Native.Nat.{ℕ, _+_, _-_}
 use lib.Dec.{leb, ltb}
 use lib.ListN.{getD}
 use Rattle.ground.specs.Tests.{if_then_else_}
-use Rattle.ground.proofs.Tests.{of-true}
 use Rattle.rules.specs.Answers.{isDone}
 use Rattle.flags.specs.Flags.{bit, flag, flagsOk}
-use Rattle.flags.proofs.Flags.{flag-bit, flags-bits, bit-flag, bits-flags, bits-ok}
+use Rattle.flags.proofs.Flags.{both, flag-bit, flags-bits, bit-flag, bits-flags, bits-ok}
 use Rattle.state.specs.declared.State.{State}
 use Rattle.state.specs.Machine.{tickAt, woken, workOf, amountAt, joined, arrivedOf}
 use Rattle.state.specs.Work.{firstIdle}
@@ -34,10 +33,6 @@ pub flagged-by : (going : ℕ) (awake arrived : List ℕ) (a b t : Bool) → a �
 flagged-by going awake arrived a b t e f g = sym (g ∙ ap (λ x. leb going 1 && (x && b)) e ∙ ap (λ x. leb going 1 && (flagsOk awake && x)) f)
 
 -- what flags say, one by one
-pub both : (a b : Bool) → (a && b) ≡ true → (a ≡ true) × (b ≡ true)
-both true b e = (refl, e)
-both false b e = let z : ⊥ = of-true false (λ w. w) e in absurd z
-
 module _ (c : Struct) (ok : flagged c ≡ true) where
   pub going-ok : leb (c .going) 1 ≡ true
   going-ok = both (leb (c .going) 1) (flagsOk (c .awake) && flagsOk (c .arrived)) ok .0
