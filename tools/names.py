@@ -33,7 +33,7 @@ def camel(name):
 def turned(name):
     if re.match(r"[A-Z][A-Za-z]+-[a-z]", name) and not name.startswith('Need-'):
         return camel(name)
-    return snake(name)
+    return snake(name) if name[:1].islower() else name
 
 
 def code_of(line):

@@ -14,7 +14,7 @@ use state::{Jobs, State};
 use table::Table;
 
 // What admission answers where the columns are lent: the number, the row that it names (from 1; 0 for none), and the table's numbers.
-#[derive(Drop)]
+#[derive(Clone, Copy)]
 pub struct Outcome {
     pub answer: Answer,
     pub row: usize,
@@ -24,7 +24,7 @@ pub struct Outcome {
 }
 
 // What admission answers: the number, the row that it names or 0, the state.
-#[derive(Drop)]
+#[derive(Clone, Copy)]
 pub struct Admitted {
     pub answer: Answer,
     pub row: usize,

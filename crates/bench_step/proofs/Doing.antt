@@ -16,7 +16,7 @@ use Rattle.state.specs.Machine.{moved_of, arrived_of}
 use Rattle.state.specs.View.{view}
 use Rattle.moves.specs.Whole.{Whole}
 use Rattle.moves.proofs.Keeping.{step_whole, arrive_whole}
-use Rattle.bench_step.specs.Held.{Taken, done_of, All_taken, done_all}
+use Rattle.bench_step.specs.Held.{Taken, done_of, AllTaken, done_all}
 
 module _ (s : State) (call : ℕ) where
   arrives : call < 4294967296 → ltb call 4294967296 ≡ true
@@ -57,22 +57,22 @@ module _ (s : State) (call : ℕ) where
 pub record Doing (s₀ : State) (list : List ℕ) (s : State) (i : ℕ) : Type 0 where
   pub whole : Whole s
   pub within : i ≤ length list
-  pub taken : All_taken s (drop i list)
+  pub taken : AllTaken s (drop i list)
   pub same : done_all s (drop i list) ≡ done_all s₀ list
 
-pub doing_from : (s : State) (list : List ℕ) → Whole s → All_taken s list → Doing s list s 0
+pub doing_from : (s : State) (list : List ℕ) → Whole s → AllTaken s list → Doing s list s 0
 doing_from s list W T = record { whole = W; within = omega arith; taken = T; same = refl }
 
 module _ (s₀ : State) (list : List ℕ) (s : State) (i : ℕ) (D : Doing s₀ list s i) where
-  next : i < length list → All_taken s (get_or list i 0 ∷ drop (suc i) list)
-  next h = subst (All_taken s) (drop-cons list i 0 h) D.taken
+  next : i < length list → AllTaken s (get_or list i 0 ∷ drop (suc i) list)
+  next h = subst (AllTaken s) (drop-cons list i 0 h) D.taken
 
   pub doing_taken : i < length list → Taken s (get_or list i 0)
-  unfolding All_taken
+  unfolding AllTaken
   doing_taken h = (next h).0
 
   pub doing_on : i < length list → (k : State) → k ≡ done_of s (get_or list i 0) → Doing s₀ list k (i + 1)
-  unfolding All_taken done_all
+  unfolding AllTaken done_all
   doing_on h k e =
       rw (e, add-one i)
       (record {

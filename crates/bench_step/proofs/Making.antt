@@ -18,7 +18,7 @@ use Rattle.rules.proofs.Keeping.{not_both}
 use Rattle.course.specs.declared.Cursor.{Cursor}
 use Rattle.course.specs.Turns.{first_cursor, is_ended}
 use Rattle.listing.specs.Listing.{cursor_of}
-use Rattle.bench_step.specs.Made.{made, made_all, Lists, ended, goes, Ends_at}
+use Rattle.bench_step.specs.Made.{made, made_all, Lists, ended, goes, EndsAt}
 
 pub made_arrives : (n : ℕ) (s : State) (call : ℕ) (r : Arrived) → call < 4294967296 → r ≡ arrive_of s call → r.state ≡ made n s call
 unfolding made
@@ -48,7 +48,7 @@ listed_first text c e k L = subst (λ (x : Cursor). Lists text x k) e L
 pub listed_on : (text : List ℕ) (c c' : Cursor) → c' ≡ cursor_of text c → is_ended c.stage ≡ false → Listed text c → Listed text c'
 listed_on text c c' e n W k L = W k (goes n (subst (λ (x : Cursor). Lists text x k) e L))
 
-pub listed_end : (text : List ℕ) (c : Cursor) → is_ended c.stage ≡ true → Listed text c → Ends_at text c.state.now.0
+pub listed_end : (text : List ℕ) (c : Cursor) → is_ended c.stage ≡ true → Listed text c → EndsAt text c.state.now.0
 listed_end text c e W = (c, W c (ended e), refl)
 
 -- from a cursor they lead to one cursor only

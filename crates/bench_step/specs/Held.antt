@@ -18,9 +18,9 @@ unfoldable pub done_of : State → ℕ → State
 done_of s call = if ltb call 4294967296 then arrived_of s (call - 1) else (moved_of s (call - 4294967296)).state
 
 -- so can each of them
-unfoldable pub All_taken : State → List ℕ → Type 0
-All_taken s [] = Unit {0}
-All_taken s (call ∷ list) = Taken s call × All_taken (done_of s call) list
+unfoldable pub AllTaken : State → List ℕ → Type 0
+AllTaken s [] = Unit {0}
+AllTaken s (call ∷ list) = Taken s call × AllTaken (done_of s call) list
 
 unfoldable pub done_all : State → List ℕ → State
 done_all s [] = s

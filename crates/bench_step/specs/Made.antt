@@ -22,5 +22,5 @@ pub data Lists (text : List ℕ) : Cursor → Cursor → Type 0 where
   goes : {c k : Cursor} → is_ended c.stage ≡ false → Lists text (cursor_of text c) k → Lists text c k
 
 -- the present at the end of a text's listing
-abbrev pub Ends_at : List ℕ → ℕ → Type 0
-Ends_at text r = (k : Cursor) × Lists text first_cursor k × (r ≡ k.state.now.0)
+abbrev pub EndsAt : List ℕ → ℕ → Type 0
+EndsAt text r = (k : Cursor) × Lists text first_cursor k × (r ≡ k.state.now.0)

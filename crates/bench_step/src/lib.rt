@@ -6,8 +6,8 @@ ghost use Rattle.moves.specs.Lent.{old};
 ghost use Rattle.together.specs.Holds.{holds_of};
 ghost use Rattle.admission.specs.Admit.{admit_of};
 ghost use Rattle.bench_step.specs.Moments.{terms_of, moment_of, moment_here, moment_old, moment_new, in_call, by_call};
-ghost use Rattle.bench_step.specs.Held.{Taken, done_of, All_taken, done_all};
-ghost use Rattle.bench_step.specs.Made.{made_all, Ends_at};
+ghost use Rattle.bench_step.specs.Held.{Taken, done_of, AllTaken, done_all};
+ghost use Rattle.bench_step.specs.Made.{made_all, EndsAt};
 ghost use Rattle.text.specs.Puts.{Put};
 ghost use Rattle.print.specs.Printed.{record_lines};
 
@@ -77,9 +77,9 @@ pub extern "C" fn held_calls(
     slots: &mut [u16; 16],
     room: &mut [u8],
 )
-    requires taken { (48 ≤ length room.old) × in_call (λ s. Whole s × All_taken s list.now) (terms_of count m scale) (moment_here present going end running waiting)
+    requires taken { (48 ≤ length room.old) × in_call (λ s. Whole s × AllTaken s list.now) (terms_of count m scale) (moment_here present going end running waiting)
         period deadline share order awake arrived last rk rt wk wt slots }
-    ensures is { by_call (λ s k. (Whole s → All_taken s list.now → k ≡ done_all s list.now)) (terms_of count m scale)
+    ensures is { by_call (λ s k. (Whole s → AllTaken s list.now → k ≡ done_all s list.now)) (terms_of count m scale)
         (moment_old present going end running waiting) (moment_new present going end running waiting) period deadline share order awake arrived last rk rt wk wt slots }
 {
     let terms = Terms {
@@ -221,7 +221,7 @@ pub extern "C" fn record_lines(out: &mut [u8], room: &[u8], n: usize, m: usize) 
 // The present at the end.
 #[unsafe(no_mangle)]
 pub extern "C" fn public_lines(text: &[u8], out: &mut [u8; 65536]) -> u64
-    ensures ends { Ends_at text.now result }
+    ensures ends { EndsAt text.now result }
 {
     let mut c = course::first();
     loop {

@@ -11,7 +11,7 @@ use Rattle.rules.specs.Calls as Rule
 use Rattle.ground.specs.Tests.{if◌then◌else◌}
 use Rattle.rules.specs.Answers.{is_done}
 use Rattle.rules.specs.Calls.{moving}
-use Rattle.rules.specs.Reasons.{Arrive_reason, Step_reason, Comes}
+use Rattle.rules.specs.Reasons.{ArriveReason, StepReason, Comes}
 use Rattle.rules.specs.Record.{Record, record_bytes}
 use Rattle.rules.proofs.Jobs.{done_comes, by_answer}
 use Rattle.rules.proofs.Refusing.{arrive_answers, step_answers}
@@ -28,7 +28,7 @@ use Rattle.calls.specs.Step.{step_of}
 
 -- ARRIVE
 arrive_reason : (s : State) (task : ℕ) → Whole s → arrive_answer_of s task ≡ Done → Comes (view s) (task - 1)
-arrive_reason s task W d = done_comes (view s) task (subst (Arrive_reason (view s) task) (sym (arrive_same s task W) ∙ d) (arrive_answers (view s) task))
+arrive_reason s task W d = done_comes (view s) task (subst (ArriveReason (view s) task) (sym (arrive_same s task W) ∙ d) (arrive_answers (view s) task))
 
 arrive_state : (s : State) (task : ℕ) (a : Answer) → arrive_answer_of s task ≡ a → (arrive_of s task).state ≡ (if is_done a then arrived_of s (task - 1) else s)
 unfolding arrive_of
@@ -58,8 +58,8 @@ arrive_kept s task W =
     record { whole = subst Whole (sym e) W; same = ap view e ∙ sym f })
 
 -- STEP
-step_reason : (s : State) (h n : ℕ) → Whole s → step_answer_of s h n ≡ Done → Step_reason (view s) h n Done
-step_reason s h n W d = subst (Step_reason (view s) h n) (sym (step_same s h n W) ∙ d) (step_answers (view s) h n)
+step_reason : (s : State) (h n : ℕ) → Whole s → step_answer_of s h n ≡ Done → StepReason (view s) h n Done
+step_reason s h n W d = subst (StepReason (view s) h n) (sym (step_same s h n W) ∙ d) (step_answers (view s) h n)
 
 step_state : (s : State) (h n : ℕ) (a : Answer) → step_answer_of s h n ≡ a → (step_of s h n).state ≡ (if is_done a then (moved_of s h).state else s)
 unfolding step_of

@@ -15,21 +15,21 @@ use rules::Answer;
 use state::{Jobs, State};
 
 // What an arrival answers. Here and below the state stands first: with one byte ahead of it, the compiler copies it once more.
-#[derive(Drop)]
+#[derive(Clone, Copy)]
 pub struct Arrived {
     pub state: State,
     pub answer: Answer,
 }
 
 // What a step answers; its record is in the room.
-#[derive(Drop)]
+#[derive(Clone, Copy)]
 pub struct Stepped {
     pub state: State,
     pub answer: Answer,
 }
 
 // What a run answers; that many records are in the room.
-#[derive(Drop)]
+#[derive(Clone, Copy)]
 pub struct Ran {
     pub state: State,
     pub answer: Answer,

@@ -11,7 +11,7 @@ use Rattle.moves.proofs.Keeping.{together_of}
 use Rattle.rules.specs.declared.Answer.TheVariants.{Done}
 use Rattle.rules.specs.Answers.{is_done}
 use Rattle.rules.specs.Bounds.{clock}
-use Rattle.rules.specs.Reasons.{Step_reason}
+use Rattle.rules.specs.Reasons.{StepReason}
 use Rattle.rules.proofs.Keeping.{not_both}
 use Rattle.rules.proofs.Refusing.{step_answers}
 use Rattle.state.specs.declared.State.{State}
@@ -33,7 +33,7 @@ use Rattle.course.specs.declared.Part.TheVariants.{Refused}
 use Rattle.course.specs.declared.Turned.{Turned}
 use Rattle.course.specs.Turns.{is_ended, ended_at, ran_of, item_deed, line_deed, deed_by, turn_by, turn_of}
 use Rattle.course.specs.Moves.{Moves, instants, left_by, left}
-use Rattle.course.specs.Owed.{Made_by, Made}
+use Rattle.course.specs.Owed.{MadeBy, Made}
 use Rattle.course.proofs.Turning.{arrival_moves, ran_no, ran_yes}
 use Rattle.course.proofs.Falling.{left_after, start_falls, line_falls}
 
@@ -42,7 +42,7 @@ run_ahead : (s : State) (tick n : ℕ) → Whole s → is_done (run_of s tick n)
 unfolding run_of
 run_ahead s tick n W d =
     let e : step_answer_of s tick n ≡ Done = done_is (step_answer_of s tick n) d in
-    let R = subst (Step_reason (view s) tick n) (sym (step_same s tick n W) ∙ e) (step_answers (view s) tick n) in
+    let R = subst (StepReason (view s) tick n) (sym (step_same s tick n W) ∙ e) (step_answers (view s) tick n) in
     record { whole = W; ahead = R.3; clock = R.2; space = R.1 }
 
 ran_moves : (c : Cursor) (tick n : ℕ) → Whole c.state → Moves c (ran_of c tick n) n
@@ -83,7 +83,7 @@ pub made_falls : (text : List ℕ) (c : Cursor) (n : ℕ) → Made text c → is
 unfolding turn_of left
 made_falls text c n M = go c.stage M
   where
-    go : (stage : Stage) → Made_by stage text c → is_ended stage ≡ false → left_after (length text) (turn_by (deed_by stage text c.at c.state.now.0 c.state.table.scale) text c n) < left_by stage (length text) c.at c.state.now.0
+    go : (stage : Stage) → MadeBy stage text c → is_ended stage ≡ false → left_after (length text) (turn_by (deed_by stage text c.at c.state.now.0 c.state.table.scale) text c n) < left_by stage (length text) c.at c.state.now.0
     go Start M e = start_falls text c
     go Lines M e = line_falls text c n (small c.state M.whole) (line_moves text c n M.whole)
     go Ended M e = not_both _ (sym e)

@@ -44,7 +44,7 @@ use Rattle.text.specs.declared.Checked.TheVariants.{Good, Broken}
 use Rattle.text.specs.Parts.{split_by, newline}
 use Rattle.text.specs.Form.{form_from, form_of}
 use Rattle.text.specs.Meaning.{items_of, line_at, processors_in, rows_in, row_line_of, Turn, turn_by, turns_in, table_of}
-use Rattle.text.proofs.Tables.{Item_fits, line_fits}
+use Rattle.text.proofs.Tables.{ItemFits, line_fits}
 use Rattle.text.proofs.Walks.{items_none, turns_walk, next_later}
 use Rattle.output.specs.Course.{Entry, scale_entry, record_entry, refusal, is_at, reached, reaching, arriving, turns_course, admission_course, course_by, course_of}
 use Rattle.output.proofs.Reaching.{steps_keep, reach_on, reach_none}
@@ -58,7 +58,7 @@ use Rattle.course.specs.declared.Part.TheVariants.{Scale, Records, Refused, Noth
 use Rattle.course.specs.declared.Turned.{Turned}
 use Rattle.course.specs.Turns.{turned, ended_at, line_after, skipped_of, admitted_of, start_by, start_of, arrival_of, ran_of, item_deed, line_deed, deed_by, room_by, turn_of, turn_room}
 use Rattle.course.specs.Turns as Turns
-use Rattle.course.specs.Owed.{entries_of, owes_by, owes, OnItsWay, Made_by, Made}
+use Rattle.course.specs.Owed.{entries_of, owes_by, owes, OnItsWay, MadeBy, Made}
 use Rattle.course.proofs.Places.{line_more}
 use Rattle.course.proofs.Following.{run_follows}
 
@@ -258,7 +258,7 @@ module _ (text : List ℕ) (c : Cursor) (room : List ℕ) (O : OnItsWay text c) 
       ap (turns_course k) (turns_walk text c.at c.line)
       ∙ ap (λ (y : Item). turns_course k (turn_by c.line y ++ turns_in (c.line + 1) (items_of (drop (line_at text c.at).next text)))) e
 
-  pub item_owes : (x : Item) → (line_at text c.at).item ≡ x → Item_fits x
+  pub item_owes : (x : Item) → (line_at text c.at).item ≡ x → ItemFits x
       → Owed text (room_by (item_deed x (line_at text c.at).next c.state.now.0 c.state.table.scale) c room) (Turns.turn_by (item_deed x (line_at text c.at).next c.state.now.0 c.state.table.scale) text c (length room)) (turns_course (view c.state) (turns_in c.line (items_of (drop c.at text))))
   item_owes (Processors m) e f = subst (Owed text room (skipped_of c (line_at text c.at).next)) (sym (walked (Processors m) e (view c.state))) skip_owes
   item_owes (Task p x d) e f = subst (Owed text room (skipped_of c (line_at text c.at).next)) (sym (walked (Task p x d) e (view c.state))) skip_owes
@@ -351,7 +351,7 @@ pub turn_owes : (text : List ℕ) (c : Cursor) (room : List ℕ) → Made text c
 unfolding turn_of turn_room owes
 turn_owes text c room M space = go c.stage M
   where
-    go : (stage : Stage) → Made_by stage text c → Owed text (room_by (deed_by stage text c.at c.state.now.0 c.state.table.scale) c room) (Turns.turn_by (deed_by stage text c.at c.state.now.0 c.state.table.scale) text c (length room)) (owes_by stage text c)
+    go : (stage : Stage) → MadeBy stage text c → Owed text (room_by (deed_by stage text c.at c.state.now.0 c.state.table.scale) c room) (Turns.turn_by (deed_by stage text c.at c.state.now.0 c.state.table.scale) text c (length room)) (owes_by stage text c)
     go Start M = start_owes text c room
     go Lines M = line_owes text c room M space
     go Ended M = unfold owes in (record { entries = refl; made = tt })

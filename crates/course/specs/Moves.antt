@@ -9,14 +9,14 @@ use Rattle.course.specs.declared.Turned.{Turned}
 use Rattle.course.specs.Turns.{is_ended}
 
 -- records are of at most 16 processors and fit the room, and the present moves on
-abbrev pub Moves_by : Part → ℕ → ℕ → ℕ → Type 0
-Moves_by (Records k m) before after n = (m ≤ 16) × (48 * k ≤ n) × (before < after)
-Moves_by (Scale l) before after n = Unit {0}
-Moves_by (Refused a line) before after n = Unit {0}
-Moves_by Nothing before after n = Unit {0}
+abbrev pub MovesBy : Part → ℕ → ℕ → ℕ → Type 0
+MovesBy (Records k m) before after n = (m ≤ 16) × (48 * k ≤ n) × (before < after)
+MovesBy (Scale l) before after n = Unit {0}
+MovesBy (Refused a line) before after n = Unit {0}
+MovesBy Nothing before after n = Unit {0}
 
 abbrev pub Moves : Cursor → Turned → ℕ → Type 0
-Moves c r n = Moves_by r.part c.state.now.0 r.cursor.state.now.0 n
+Moves c r n = MovesBy r.part c.state.now.0 r.cursor.state.now.0 n
 
 -- an instant is below 2^64: a line ahead counts for more than any run
 abbrev pub instants : ℕ

@@ -34,10 +34,10 @@ pub record OnItsWay (text : List ℕ) (c : Cursor) : Type 0 where
   pub line : c.line ≤ c.at + 1
 
 -- the first cursor is made, and so is every cursor that a turn hands back
-abbrev pub Made_by : Stage → List ℕ → Cursor → Type 0
-Made_by Start text c = Unit {0}
-Made_by Lines text c = OnItsWay text c
-Made_by Ended text c = Unit {0}
+abbrev pub MadeBy : Stage → List ℕ → Cursor → Type 0
+MadeBy Start text c = Unit {0}
+MadeBy Lines text c = OnItsWay text c
+MadeBy Ended text c = Unit {0}
 
 abbrev pub Made : List ℕ → Cursor → Type 0
-Made text c = Made_by c.stage text c
+Made text c = MadeBy c.stage text c

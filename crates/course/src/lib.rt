@@ -9,7 +9,7 @@ use state::State;
 use text::{Checked, Item};
 
 // Where the program stands: before the text, on a line of it, or at the end.
-#[derive(Drop)]
+#[derive(Clone, Copy)]
 pub enum Stage {
     Start,
     Lines,
@@ -17,7 +17,7 @@ pub enum Stage {
 }
 
 // The state, the place where the line begins, its number, the stage.
-#[derive(Drop)]
+#[derive(Clone, Copy)]
 pub struct Cursor {
     pub state: State,
     pub at: usize,
@@ -26,7 +26,7 @@ pub struct Cursor {
 }
 
 // What comes next: the scale, so many records of m processors in the room, a refusal with its text line, or nothing.
-#[derive(Drop)]
+#[derive(Clone, Copy)]
 pub enum Part {
     Scale(u64),
     Records(usize, usize),
@@ -35,7 +35,7 @@ pub enum Part {
 }
 
 // What is due: the form and the table, steps towards a tick, an arrival and the place of the next line, that place alone, the end.
-#[derive(Drop)]
+#[derive(Clone, Copy)]
 pub enum Deed {
     Begin,
     Run(u64),
@@ -45,7 +45,7 @@ pub enum Deed {
 }
 
 // The cursor after a call, and what came of it.
-#[derive(Drop)]
+#[derive(Clone, Copy)]
 pub struct Turned {
     pub cursor: Cursor,
     pub part: Part,

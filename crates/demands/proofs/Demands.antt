@@ -18,7 +18,7 @@ use Rattle.calls.specs.Run as Runs
 use Rattle.ground.specs.Tests.{if◌then◌else◌}
 use Rattle.rules.specs.Admission.{admit_verdict, admit}
 use Rattle.rules.specs.Answers.{number_of, is_done}
-use Rattle.rules.specs.Reasons.{Admit_reason, Step_reason}
+use Rattle.rules.specs.Reasons.{AdmitReason, StepReason}
 use Rattle.rules.specs.Record.{Record, record_bytes}
 use Rattle.rules.proofs.Computed.{computed}
 use Rattle.rules.specs.Listings.{table_p1, towards, line, listing}
@@ -43,7 +43,7 @@ use Rattle.moves.proofs.Keeping.{sized_by, together_of}
 use Rattle.admission.specs.Admit.{blank_state, admit_of}
 use Rattle.refusals.specs.Arrive.{task_in, whole_tick, soon_again, arrive_answer_of}
 use Rattle.calls.specs.Arrive.{arrive_of}
-use Rattle.demands.specs.Demands.{One_of, calling_all, starting, seen}
+use Rattle.demands.specs.Demands.{OneOf, calling_all, starting, seen}
 use Rattle.inplace.specs.Run.{went, run_room}
 use Rattle.calls.specs.Run.{run_of}
 use Rattle.refusals.specs.Step.{moves_by, step_answer_of}
@@ -187,7 +187,7 @@ run_is_steps s h room z = record {
   answer = refl;
   done = λ d.
       let W = whole_of s h (length room) z d in
-      let R = subst (Step_reason (view s) h (length room)) (sym (step_same s h (length room) W) ∙ d) (step_answers (view s) h (length room)) in
+      let R = subst (StepReason (view s) h (length room)) (sym (step_same s h (length room) W) ∙ d) (step_answers (view s) h (length room)) in
       let e = run_steps (length room / 48) h s W R.2 in
       (rw (d, e), rw (d, e), rw (d, e), rw d (whole_holds (went (length room / 48) h s).state (went_whole (length room / 48) h s W R.2)));
 }
@@ -209,33 +209,33 @@ demand_2 = record {
 }
 
 -- DEMAND 1
-arrive_listed : (s : State) (task : ℕ) → One_of (number_of (arrive_of s task).answer) (0 ∷ 7 ∷ 8 ∷ 9 ∷ 13 ∷ [])
+arrive_listed : (s : State) (task : ℕ) → OneOf (number_of (arrive_of s task).answer) (0 ∷ 7 ∷ 8 ∷ 9 ∷ 13 ∷ [])
 unfolding arrive_of arrive_answer_of
 arrive_listed s task = go (holds_of s) (task_in s.table.count task) (whole_tick s.table.scale s.now.0) (soon_again (tick_at s) s.table.period s.jobs.arrived s.jobs.last (task - 1))
   where
-    go : (a b c d : Bool) → One_of (number_of (if a then (if not b then TaskNumber else (if not c then BetweenTicks else (if d then TooSoon else Done))) else NotTogether)) (0 ∷ 7 ∷ 8 ∷ 9 ∷ 13 ∷ [])
+    go : (a b c d : Bool) → OneOf (number_of (if a then (if not b then TaskNumber else (if not c then BetweenTicks else (if d then TooSoon else Done))) else NotTogether)) (0 ∷ 7 ∷ 8 ∷ 9 ∷ 13 ∷ [])
     go false b c d = inr (inr (inr (inr (inl refl))))
     go true false c d = inr (inl refl)
     go true true false d = inr (inr (inl refl))
     go true true true true = inr (inr (inr (inl refl)))
     go true true true false = inl refl
 
-step_listed : (s : State) (h n : ℕ) → One_of (number_of (step_answer_of s h n)) (0 ∷ 10 ∷ 11 ∷ 12 ∷ 13 ∷ [])
+step_listed : (s : State) (h n : ℕ) → OneOf (number_of (step_answer_of s h n)) (0 ∷ 10 ∷ 11 ∷ 12 ∷ 13 ∷ [])
 unfolding step_answer_of moves_by
 step_listed s h n = go (holds_of s) (ltb n 48) (ltb clock h) (leb (h * s.table.scale) s.now.0)
   where
-    go : (a b c d : Bool) → One_of (number_of (if a then (if b then RoomTooShort else (if c then HorizonPastClock else (if d then HorizonNotLater else Done))) else NotTogether)) (0 ∷ 10 ∷ 11 ∷ 12 ∷ 13 ∷ [])
+    go : (a b c d : Bool) → OneOf (number_of (if a then (if b then RoomTooShort else (if c then HorizonPastClock else (if d then HorizonNotLater else Done))) else NotTogether)) (0 ∷ 10 ∷ 11 ∷ 12 ∷ 13 ∷ [])
     go false b c d = inr (inr (inr (inr (inl refl))))
     go true true c d = inr (inr (inr (inl refl)))
     go true false true d = inr (inl refl)
     go true false false true = inr (inr (inl refl))
     go true false false false = inl refl
 
-admit_listed : (bytes : List ℕ) (m : ℕ) → One_of (number_of (admit bytes m).answer) (0 ∷ 1 ∷ 2 ∷ 3 ∷ 4 ∷ 5 ∷ 6 ∷ [])
+admit_listed : (bytes : List ℕ) (m : ℕ) → OneOf (number_of (admit bytes m).answer) (0 ∷ 1 ∷ 2 ∷ 3 ∷ 4 ∷ 5 ∷ 6 ∷ [])
 unfolding admit
 admit_listed bytes m = go (admit_verdict bytes m).answer (admit_verdict bytes m).row (admit_answers bytes m)
   where
-    go : (a : Answer) (i : ℕ) → Admit_reason bytes m a i → One_of (number_of a) (0 ∷ 1 ∷ 2 ∷ 3 ∷ 4 ∷ 5 ∷ 6 ∷ [])
+    go : (a : Answer) (i : ℕ) → AdmitReason bytes m a i → OneOf (number_of a) (0 ∷ 1 ∷ 2 ∷ 3 ∷ 4 ∷ 5 ∷ 6 ∷ [])
     go Done i h = inl refl
     go Processors i h = inr (inl refl)
     go TableLength i h = inr (inr (inl refl))
@@ -269,7 +269,7 @@ refused_blank bytes m n = ap fresh_state (tabled_refused bytes m (not_done (admi
 pub demand_1 : Say.Demand1
 demand_1 = record {
   admits = λ bytes m. record {
-    listed = subst (λ (a : Answer). One_of (number_of a) (0 ∷ 1 ∷ 2 ∷ 3 ∷ 4 ∷ 5 ∷ 6 ∷ [])) (sym (answer_same bytes m).0) (admit_listed bytes m);
+    listed = subst (λ (a : Answer). OneOf (number_of a) (0 ∷ 1 ∷ 2 ∷ 3 ∷ 4 ∷ 5 ∷ 6 ∷ [])) (sym (answer_same bytes m).0) (admit_listed bytes m);
     refused = λ n. let e = refused_blank bytes m n in (e, ap holds_of e ∙ blank_refused);
   };
   arrives = λ s task. record { listed = arrive_listed s task; refused = λ n. arrive_unchanged s task n };

@@ -15,7 +15,7 @@ use Rattle.ground.proofs.Tests.{ltb_says}
 use Rattle.rules.specs.Answers.{is_done}
 use Rattle.rules.specs.Run.{Arrival}
 use Rattle.rules.specs.Record.{Record, record_bytes, read_record}
-use Rattle.rules.specs.Reasons.{Step_reason}
+use Rattle.rules.specs.Reasons.{StepReason}
 use Rattle.rules.proofs.Jobs.{by_answer}
 use Rattle.rules.proofs.Refusing.{step_exact, step_answers}
 use Rattle.state.specs.Machine.{moved_of}
@@ -129,7 +129,7 @@ run_called r h room W =
     let s = r.state in
     by_answer _ (step_answer_of s h (length room))
     (λ d.
-    let R = subst (Step_reason (view s) h (length room)) (sym (step_same s h (length room) W) ∙ d) (step_answers (view s) h (length room)) in
+    let R = subst (StepReason (view s) h (length room)) (sym (step_same s h (length room) W) ∙ d) (step_answers (view s) h (length room)) in
     let b = (went (length room / 48) h s).bytes in
     rw d (sym (went_called r.arrivals (length room / 48) h s r.records (drop (length b) room) W R.2)))
     (λ e. rw e (ap (at r.arrivals s) (append-nil r.records)))

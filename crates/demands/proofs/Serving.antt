@@ -23,7 +23,7 @@ use Rattle.rules.proofs.Jobs.{Good, perform_good}
 use Rattle.rules.proofs.Demands.{Manned, manned_on, next_of}
 use Rattle.state.specs.Machine.{tick_at}
 use Rattle.state.specs.View.{view}
-use Rattle.demands.specs.Demands.{Call, arrive_call, step_call, run_call, Calls, calling, calling_all, seen, Next_of, one_step}
+use Rattle.demands.specs.Demands.{Call, arrive_call, step_call, run_call, Calls, calling, calling_all, seen, NextOf, one_step}
 use Rattle.calls.specs.Arrive.{arrive_of}
 use Rattle.calls.specs.Step.{step_of}
 use Rattle.inplace.specs.Step.{step_room}
@@ -130,7 +130,7 @@ module _ (rows : List Row) (m : ℕ) where
   pub seen_within : (r : Calls) → Followed rows m r → Within m r.records
   seen_within r F = subst (Within m) (sym F.1.records) F.3.1
 
-  pub seen_next : (r : Calls) → Followed rows m r → Next_of rows r
+  pub seen_next : (r : Calls) → Followed rows m r → NextOf rows r
   seen_next r F =
       let N = next_of rows (seen r) (seen_good r F) in
       let W = F.1.whole in

@@ -29,24 +29,24 @@ use Rattle.calls.specs.Run.{run_of}
 use Rattle.inplace.specs.Run.{run_room}
 
 -- DEMAND 1: each call answers 0 or one of its numbers, and what a refusal hands back and leaves in the room
-abbrev pub One_of : ℕ → List ℕ → Type 0
-One_of n [] = ⊥
-One_of n (x ∷ l) = (n ≡ x) ⊎ One_of n l
+abbrev pub OneOf : ℕ → List ℕ → Type 0
+OneOf n [] = ⊥
+OneOf n (x ∷ l) = (n ≡ x) ⊎ OneOf n l
 
 pub record AdmitAnswers (bytes : List ℕ) (m : ℕ) : Type 0 where
-  pub listed : One_of (number_of (admit_of bytes m).answer) (0 ∷ 1 ∷ 2 ∷ 3 ∷ 4 ∷ 5 ∷ 6 ∷ [])
+  pub listed : OneOf (number_of (admit_of bytes m).answer) (0 ∷ 1 ∷ 2 ∷ 3 ∷ 4 ∷ 5 ∷ 6 ∷ [])
   pub refused : ¬ ((admit_of bytes m).answer ≡ Done) → ((admit_of bytes m).state ≡ blank_state) × (holds_of (admit_of bytes m).state ≡ false)
 
 pub record ArriveAnswers (s : State) (task : ℕ) : Type 0 where
-  pub listed : One_of (number_of (arrive_of s task).answer) (0 ∷ 7 ∷ 8 ∷ 9 ∷ 13 ∷ [])
+  pub listed : OneOf (number_of (arrive_of s task).answer) (0 ∷ 7 ∷ 8 ∷ 9 ∷ 13 ∷ [])
   pub refused : ¬ ((arrive_of s task).answer ≡ Done) → (arrive_of s task).state ≡ s
 
 pub record StepAnswers (s : State) (horizon : ℕ) (room : List ℕ) : Type 0 where
-  pub listed : One_of (number_of (step_of s horizon (length room)).answer) (0 ∷ 10 ∷ 11 ∷ 12 ∷ 13 ∷ [])
+  pub listed : OneOf (number_of (step_of s horizon (length room)).answer) (0 ∷ 10 ∷ 11 ∷ 12 ∷ 13 ∷ [])
   pub refused : ¬ ((step_of s horizon (length room)).answer ≡ Done) → ((step_of s horizon (length room)).state ≡ s) × (step_room s horizon room ≡ room)
 
 pub record RunAnswers (s : State) (horizon : ℕ) (room : List ℕ) : Type 0 where
-  pub listed : One_of (number_of (run_of s horizon (length room)).answer) (0 ∷ 10 ∷ 11 ∷ 12 ∷ 13 ∷ [])
+  pub listed : OneOf (number_of (run_of s horizon (length room)).answer) (0 ∷ 10 ∷ 11 ∷ 12 ∷ 13 ∷ [])
   pub refused : ¬ ((run_of s horizon (length room)).answer ≡ Done) → ((run_of s horizon (length room)).state ≡ s) × ((run_of s horizon (length room)).records ≡ 0) × (run_room s horizon room ≡ room)
 
 pub record Demand1 : Type 0 where
@@ -132,8 +132,8 @@ abbrev pub seen : Calls → Run
 seen r = record { state = view r.state; records = r.records; arrivals = r.arrivals }
 
 -- what the next call is answered, by these arrive and step
-abbrev pub Next_of : List Row → Calls → Type 0
-Next_of rows c = Next rows (seen c) (λ task. (arrive_of c.state task).answer) (λ horizon room. let x = step_of c.state horizon (length room) in (x.answer, x.state.now.0))
+abbrev pub NextOf : List Row → Calls → Type 0
+NextOf rows c = Next rows (seen c) (λ task. (arrive_of c.state task).answer) (λ horizon room. let x = step_of c.state horizon (length room) in (x.answer, x.state.now.0))
 
 -- DEMAND 3: "Start from any admitted table and make any calls, refused ones among them, each on the state the last one handed back."
 pub record Demand3 : Type 0 where
@@ -143,7 +143,7 @@ pub record Demand3 : Type 0 where
   -- one processor at an instant, records that follow one another, a record's end at every plane end
   pub courses : (bytes : List ℕ) (m : ℕ) → (admit_of bytes m).answer ≡ Done → (calls : List Call) → Course (rows_of bytes) m (seen (calling_all (starting bytes m) calls))
   -- what the next call is answered
-  pub nexts : (bytes : List ℕ) (m : ℕ) → (admit_of bytes m).answer ≡ Done → (calls : List Call) → Next_of (rows_of bytes) (calling_all (starting bytes m) calls)
+  pub nexts : (bytes : List ℕ) (m : ℕ) → (admit_of bytes m).answer ≡ Done → (calls : List Call) → NextOf (rows_of bytes) (calling_all (starting bytes m) calls)
   -- an arrival that is taken leaves every other task as it was, but for who has a processor
   pub others : (s : State) (task : ℕ) → Sized s → (arrive_of s task).answer ≡ Done → (j : ℕ) → suc j ≢ task → Untouched (at j (tasks_at s)) (at j (tasks_at (arrive_of s task).state))
 

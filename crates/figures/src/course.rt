@@ -6,7 +6,7 @@ use state::State;
 
 // One arrival in so many is called, or with 0 each as soon as it may; a horizon lies 1 to `stride` ticks ahead; so many
 // horizons; by step or by run.
-#[derive(Drop)]
+#[derive(Clone, Copy)]
 pub(crate) struct Plan {
     pub chance: u64,
     pub stride: u64,
@@ -174,7 +174,7 @@ fn all_records(book: &mut [u64; 512], room: &[u8], n: usize)
 // STEPS
 
 // What a call leaves: the state, how many records it wrote, and whether the horizon may lie ahead yet.
-#[derive(Drop)]
+#[derive(Clone, Copy)]
 struct Went {
     state: State,
     records: usize,

@@ -384,7 +384,7 @@ fn word_at(space: usize, end: usize) -> usize
 }
 
 // What the orders so far left: the state, the one that was kept, the length of the table.
-#[derive(Drop)]
+#[derive(Clone, Copy)]
 struct Held {
     state: State,
     kept: State,

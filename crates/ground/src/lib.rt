@@ -3,11 +3,11 @@ ghost use Rattle.std.specs.Prelude.{◌+◌, ◌-◌, ◌≤◌, ◌<◌, ◌^�
 ghost use Rattle.ground.specs.Bytes.{le, number, pasted};
 
 // A point on the time axis. A key is an instant.
-#[derive(Drop)]
+#[derive(Clone, Copy)]
 pub struct Instant(pub u64);
 
 // A length on the axis of work.
-#[derive(Drop)]
+#[derive(Clone, Copy)]
 pub struct Amount(pub u64);
 
 // The instant that lies an amount after another.

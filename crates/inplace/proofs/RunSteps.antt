@@ -90,7 +90,7 @@ step_later : (s : State) (h : ℕ) → Whole s → s.now.0 < h * s.table.scale �
 step_later s h W lt hc =
     let M = moving_moves (view s) h (together_of W) lt in
     let e = (step_whole s h W lt hc).view_is in
-    (omega (arith, ap (λ (x : Rules.State). x.now) e, M.arrives, M.later, M.from_now), ap (λ (x : Rules.State). x.scale) e ∙ M.same_Scale)
+    (omega (arith, ap (λ (x : Rules.State). x.now) e, M.arrives, M.later, M.from_now), ap (λ (x : Rules.State). x.scale) e ∙ M.same_scale)
 
 went_later : (n h : ℕ) (s : State) → Whole s → h ≤ clock → Later s (went n h s).state
 went_later zero h s W hc = rw (went_none zero h s (goes_none s.now.0 (h * s.table.scale))) (record { later = omega arith; scale = refl })

@@ -14,14 +14,14 @@ use moves::{Moment, Terms};
 use rules::Answer;
 
 // What an arrival or a step answers, and where the state then stands.
-#[derive(Drop)]
+#[derive(Clone, Copy)]
 pub struct Answered {
     pub moment: Moment,
     pub answer: Answer,
 }
 
 // What a run answers, and where the state then stands; that many records are in the room.
-#[derive(Drop)]
+#[derive(Clone, Copy)]
 pub struct Advanced {
     pub moment: Moment,
     pub answer: Answer,

@@ -21,7 +21,7 @@ use Rattle.course.specs.Moves.{Moves, left_by, left}
 use Rattle.course.specs.Owed.{entries_of, owes_by, owes, Made}
 use Rattle.course.proofs.Owing.{Owed, turn_owes}
 use Rattle.course.proofs.Making.{made_falls, ended_stays}
-use Rattle.listing.specs.Listing.{space, Part_fits, part_lines, cursor_of, chunk_of, owed, Pays, chunks, looped, Program}
+use Rattle.listing.specs.Listing.{space, PartFits, part_lines, cursor_of, chunk_of, owed, Pays, chunks, looped, Program}
 use Rattle.listing.proofs.Parts.{part_printed, moves_fit}
 
 -- a turn with room for 474 records
@@ -117,5 +117,5 @@ turn_chunk text c r room e f =
     ∙ ap (λ (n : ℕ). part_lines (turn_of text c n).part room) (length-replicate {A = ℕ} space 0)
     ∙ ap (λ (l : List ℕ). part_lines (turn_of text c space).part l) f
 
-pub turn_fits : (c : Cursor) (r : Turned) → Moves c r (length zeros) → Part_fits r.part
+pub turn_fits : (c : Cursor) (r : Turned) → Moves c r (length zeros) → PartFits r.part
 turn_fits c r h = moves_fit r.part c.state.now.0 r.cursor.state.now.0 (subst (λ (n : ℕ). Moves c r n) (length-replicate {A = ℕ} space 0) h)

@@ -18,8 +18,8 @@ use Rattle.output.proofs.Printing.{printed_one}
 use Rattle.course.specs.declared.Part.{Part}
 use Rattle.course.specs.declared.Part.TheVariants.{Scale, Records, Refused, Nothing}
 use Rattle.course.specs.Owed.{entries_of}
-use Rattle.course.specs.Moves.{Moves_by}
-use Rattle.listing.specs.Listing.{space, Part_fits, part_lines}
+use Rattle.course.specs.Moves.{MovesBy}
+use Rattle.listing.specs.Listing.{space, PartFits, part_lines}
 
 -- a record is read off 48 bytes, whatever follows them
 drop_take : (k n : ℕ) (l : List ℕ) → drop k (take (k + n) l) ≡ take n (drop k l)
@@ -59,7 +59,7 @@ part_printed (Records k m) room = records_printed m k room
 part_printed (Refused answer line) room = sym (printed_one (refused_entry answer line))
 part_printed Nothing room = refl
 
-pub moves_fit : (p : Part) (before after : ℕ) → Moves_by p before after space → Part_fits p
+pub moves_fit : (p : Part) (before after : ℕ) → MovesBy p before after space → PartFits p
 moves_fit (Records k m) before after h = (h.0, h.1)
 moves_fit (Scale scale) before after h = tt
 moves_fit (Refused answer line) before after h = tt

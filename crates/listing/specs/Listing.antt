@@ -15,11 +15,11 @@ use Rattle.course.specs.Owed.{owes, Made}
 abbrev pub space : ℕ
 space = 22752
 
-abbrev pub Part_fits : Part → Type 0
-Part_fits (Records k m) = (m ≤ 16) × (48 * k ≤ space)
-Part_fits (Scale scale) = Unit {0}
-Part_fits (Refused answer line) = Unit {0}
-Part_fits Nothing = Unit {0}
+abbrev pub PartFits : Part → Type 0
+PartFits (Records k m) = (m ≤ 16) × (48 * k ≤ space)
+PartFits (Scale scale) = Unit {0}
+PartFits (Refused answer line) = Unit {0}
+PartFits Nothing = Unit {0}
 
 -- the lines of a part; its records are in the room
 abbrev pub part_lines : Part → List ℕ → List ℕ

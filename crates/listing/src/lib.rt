@@ -2,12 +2,12 @@
 ghost use Rattle.std.specs.Prelude.{◌≡◌};
 ghost use Rattle.text.specs.Puts.{Put, Counts};
 ghost use Rattle.course.specs.Moves.{Falls};
-ghost use Rattle.listing.specs.Listing.{Part_fits, part_lines, cursor_of, chunk_of, Pays};
+ghost use Rattle.listing.specs.Listing.{PartFits, part_lines, cursor_of, chunk_of, Pays};
 
 use course::{Cursor, Part};
 
 // The cursor afterwards, and how many bytes were written.
-#[derive(Drop)]
+#[derive(Clone, Copy)]
 pub struct Written {
     pub cursor: Cursor,
     pub len: usize,
@@ -15,7 +15,7 @@ pub struct Written {
 
 // The lines of a part at the front of the lent bytes; their length.
 fn put_part(out: &mut [u8; 65536], room: &[u8; 22752], part: Part) -> usize
-    requires fits { Part_fits part }
+    requires fits { PartFits part }
     ensures is { Put out.old 0 (part_lines part room.now) out.new result }
     ensures counts { Counts result out.new }
 {

@@ -26,7 +26,7 @@ use Rattle.state.specs.Machine.{end_at, tick_at, work_of, with_work, shorter_at,
 use Rattle.state.specs.View.{task_at, tasks_at, plane_of, view, Sound, Sized}
 use Rattle.state.specs.Work.{at_time, events_of, next_of}
 use Rattle.state.proofs.Arriving.{CanArrive, arrived_view}
-use Rattle.state.proofs.Step.{In_plane, CanStep, moved_view}
+use Rattle.state.proofs.Step.{InPlane, CanStep, moved_view}
 use Rattle.moves.specs.Whole.{Whole}
 use Rattle.rules.specs.Bounds.{clock}
 use Rattle.rules.proofs.Cases.{open_at, open_case}
@@ -117,18 +117,18 @@ sized_by k S o a b c = record {
 
 -- WHAT A STEP NEEDS
 -- an open plane, as plane's laws want it
-running_plane : (r : Rules.State) (e : ℕ) → Running r.m r.scale r.now e r.tasks → In_plane r e
+running_plane : (r : Rules.State) (e : ℕ) → Running r.m r.scale r.now e r.tasks → InPlane r e
 running_plane r e P = record { scale = (facts r.tasks P.table).scale_pos; before = P.going.later; stands = running_stands r.tasks P; known = P.lasts.known }
 
 -- what it says that the state holds together
 pub together_of : {s : State} → Whole s → Together (view s)
 together_of {s} W = together_is (view s) W.together
 
-opened_plane : (r : Rules.State) → Together r → (p : Option ℕ) → r.plane ≡ p → (e : ℕ) → (open_case r p).plane ≡ some e → In_plane (open_case r p) e
+opened_plane : (r : Rules.State) → Together r → (p : Option ℕ) → r.plane ≡ p → (e : ℕ) → (open_case r p).plane ≡ some e → InPlane (open_case r p) e
 opened_plane r H none q e z =
     let O = (opens_plane r.tasks (shut_parts r H q)).running in
     let y : end_of (Rules.tick_of r) r.tasks ≡ e = some_same z in
-    subst (In_plane (open_at r (Rules.tick_of r) (end_of (Rules.tick_of r) r.tasks))) y (running_plane (open_at r (Rules.tick_of r) (end_of (Rules.tick_of r) r.tasks)) (end_of (Rules.tick_of r) r.tasks) O)
+    subst (InPlane (open_at r (Rules.tick_of r) (end_of (Rules.tick_of r) r.tasks))) y (running_plane (open_at r (Rules.tick_of r) (end_of (Rules.tick_of r) r.tasks)) (end_of (Rules.tick_of r) r.tasks) O)
   where
     some_same : {a b : ℕ} → ◌≡◌ {A = Option ℕ} (some a) (some b) → a ≡ b
     some_same z = cc
@@ -139,7 +139,7 @@ shares_fit s W i h =
     let F = facts (tasks_at s) (together_of W).table in
     let n = tasks_count s in
     let e : (at i (tasks_at s)).share ≡ get_or s.table.share i 0 = ap (λ (t : Task). t.share) (task_at_lem s i h) in
-    (omega (arith, F.some_Share i (omega arith)), omega (arith, F.most i))
+    (omega (arith, F.some_share i (omega arith)), omega (arith, F.most i))
 
 pub can_step : (s : State) → Whole s → CanStep s
 unfolding opened
@@ -190,7 +190,7 @@ arrived_jobs s i = go s.going
     go true = joined_table (woken s i (tick_at s)) i
     go false = (refl, refl)
 
-open_plane : (r : Rules.State) → Together r → (e : ℕ) → r.plane ≡ some e → In_plane r e
+open_plane : (r : Rules.State) → Together r → (e : ℕ) → r.plane ≡ some e → InPlane r e
 open_plane r H e q = running_plane r e (open_parts r e H q)
 
 pub can_arrive : (s : State) (i : ℕ) → Whole s → Comes (view s) i → CanArrive s i

@@ -21,7 +21,7 @@ use Rattle.state.specs.View.{tasks_at, view}
 use Rattle.state.specs.Work.{at_time, events_of, next_of}
 use Rattle.state.proofs.Shows.{next_same}
 use Rattle.state.proofs.Step.{opened_view}
-use Rattle.state.proofs.Views.{Is_state, sound_is}
+use Rattle.state.proofs.Views.{IsState, sound_is}
 use Rattle.plane.specs.Rows.{Came}
 use Rattle.plane.proofs.Ready.{events_ready, came_ready}
 use Rattle.moves.specs.Whole.{Whole, Settles}
@@ -43,7 +43,7 @@ module _ (s : State) (to : ℕ) (S : Settles s to) where
   P : Running s.table.m s.table.scale s.now.0 s.end (tasks_at s)
   P = plane_runs s S.whole S.on
 
-  I : Is_state s (tasks_at s)
+  I : IsState s (tasks_at s)
   I = sound_is s S.whole.sound
 
   F : Facts s.table.m s.table.scale (tasks_at s)

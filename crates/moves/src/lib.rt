@@ -12,7 +12,7 @@ use ground::{Amount, Instant};
 use plane::{Lengths, Plane};
 
 // The numbers of a table: how many rows, how many processors, the scale.
-#[derive(Drop)]
+#[derive(Clone, Copy)]
 pub struct Terms {
     pub count: usize,
     pub m: usize,
@@ -20,7 +20,7 @@ pub struct Terms {
 }
 
 // Where a state stands: the present, is a plane open, its end in ticks, how many run and wait.
-#[derive(Drop)]
+#[derive(Clone, Copy)]
 pub struct Moment {
     pub now: Instant,
     pub going: bool,

@@ -11,7 +11,7 @@ use Rattle.rules.specs.State.{State}
 use Rattle.rules.specs.Record.{Record, read_record}
 use Rattle.rules.proofs.Holding.{together_is}
 use Rattle.rules.proofs.Together.{Together}
-use Rattle.rules.specs.Reasons.{Step_reason}
+use Rattle.rules.specs.Reasons.{StepReason}
 use Rattle.rules.specs.Calls.{moving, step_answer, step, Stepped}
 use Rattle.rules.specs.Run.{Arrival, Run, perform, starting}
 use Rattle.rules.specs.Listings.{towards, steps_to, reach}
@@ -84,14 +84,14 @@ pub record Onward (s k : State) : Type 0 where
 
 pub step_onward : (s : State) (tick : ℕ) → step_answer s tick 48 ≡ Done → Onward s (moving s tick).state
 step_onward s tick d =
-    let R = subst (Step_reason s tick 48) d (step_answers s tick 48) in
+    let R = subst (StepReason s tick 48) d (step_answers s tick 48) in
     let T = together_is s R.0 in
     let M = moving_moves s tick T R.3 in
-    record { together = moving_keeps s tick T R.3 R.2; later = omega (arith, M.from_now, M.later, M.arrives); scale = M.same_Scale; m = M.same_m }
+    record { together = moving_keeps s tick T R.3 R.2; later = omega (arith, M.from_now, M.later, M.arrives); scale = M.same_scale; m = M.same_m }
 
 -- refused at or past the horizon
 past : (s : State) (tick : ℕ) → tick * s.scale ≤ s.now → is_done (step_answer s tick 48) ≡ false
-past s tick h = by_step _ s tick (λ d. let R = subst (Step_reason s tick 48) d (step_answers s tick 48) in absurd (omega (arith, R.3))) (λ e. e)
+past s tick h = by_step _ s tick (λ d. let R = subst (StepReason s tick 48) d (step_answers s tick 48) in absurd (omega (arith, R.3))) (λ e. e)
 
 -- as many steps as sub-ticks are left are enough
 pub steps_stop : (n tick : ℕ) (r : Run) → tick * r.state.scale ≤ r.state.now + n → is_done (step_answer (steps_to n tick r).state tick 48) ≡ false

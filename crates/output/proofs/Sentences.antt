@@ -17,7 +17,7 @@ use Rattle.rules.specs.Admission.{Admitted, admit_verdict, admit}
 use Rattle.rules.specs.State.{State, tick_of}
 use Rattle.rules.specs.Holds.{holds}
 use Rattle.rules.specs.Record.{Record}
-use Rattle.rules.specs.Reasons.{Admit_reason, Arrive_reason, Step_reason, On_tick}
+use Rattle.rules.specs.Reasons.{AdmitReason, ArriveReason, StepReason, OnTick}
 use Rattle.rules.specs.Calls.{arrive_answer, arrive, arriving, moving, step_answer}
 use Rattle.rules.specs.Run.{Run, perform, starting}
 use Rattle.rules.specs.Listings.{towards, steps_to, reach}
@@ -64,9 +64,9 @@ steps_within (suc n) tick r W =
     by_step _ r.state tick
     (λ d.
     let s = r.state in
-    let R = subst (Step_reason s tick 48) d (step_answers s tick 48) in
+    let R = subst (StepReason s tick 48) d (step_answers s tick 48) in
     let M = moving_moves s tick W.together R.3 in
-    let e : tick * (moving s tick).state.scale ≡ tick * s.scale = ap (λ (k : ℕ). tick * k) M.same_Scale in
+    let e : tick * (moving s tick).state.scale ≡ tick * s.scale = ap (λ (k : ℕ). tick * k) M.same_scale in
     let within : Within tick (moving s tick).state = record { together = (step_onward s tick d).together; before = omega (arith, e, M.arrives, M.by_horizon) } in
     subst (λ (x : Run). Within tick x.state) (sym (steps_more n tick r (ap is_done d)))
     (steps_within n tick (perform r (towards tick)) (subst (λ (x : Run). Within tick x.state) (sym (perform_step r tick d)) within)))
@@ -76,7 +76,7 @@ steps_within (suc n) tick r W =
 refused_past : (s : State) (tick : ℕ) → holds s ≡ true → tick ≤ clock → is_done (step_answer s tick 48) ≡ false → tick * s.scale ≤ s.now
 refused_past s tick h c = go (step_answer s tick 48) (step_answers s tick 48)
   where
-    go : (a : Answer) → Step_reason s tick 48 a → is_done a ≡ false → tick * s.scale ≤ s.now
+    go : (a : Answer) → StepReason s tick 48 a → is_done a ≡ false → tick * s.scale ≤ s.now
     go Done R f = not_both _ (sym f)
     go HorizonNotLater R f = R.3
     go NotTogether R f = not_both _ (sym R ∙ h)
@@ -129,12 +129,12 @@ reaching_closes s tick line follows H l f =
 arrival_printable : (s : State) (tick task line : ℕ) → Together s → is_at s tick ≡ true → 1 ≤ line → is_done (arrive_answer s task) ≡ false → Printable (arrive_answer s task) line
 arrival_printable s tick task line H at l = go (arrive_answer s task) (arrive_answers s task)
   where
-    whole : On_tick s
+    whole : OnTick s
     whole =
         let e = subst (Says (s.now ≡ tick * s.scale)) at (eqb_says s.now (tick * s.scale)) in
         e ∙ ap (λ (k : ℕ). k * s.scale) (sym (tick_of_lem s.now s.scale tick (facts s.tasks H.table).scale_pos e))
 
-    go : (a : Answer) → Arrive_reason s task a → is_done a ≡ false → Printable a line
+    go : (a : Answer) → ArriveReason s task a → is_done a ≡ false → Printable a line
     go Done R f = not_both _ (sym f)
     go TaskNumber R f = l
     go TooSoon R f = l
@@ -155,7 +155,7 @@ arrival_printable s tick task line H at l = go (arrive_answer s task) (arrive_an
 taken_together : (s : State) (task : ℕ) → Together s → is_done (arrive_answer s task) ≡ true → Together (arrive s task).state
 unfolding arrive
 taken_together s task H d =
-    let R = subst (Arrive_reason s task) (done_is (arrive_answer s task) d) (arrive_answers s task) in
+    let R = subst (ArriveReason s task) (done_is (arrive_answer s task) d) (arrive_answers s task) in
     subst (λ (b : Bool). Together (if b then arriving s (task - 1) else s)) (sym d) (arriving_keeps s (task - 1) H (done_comes s task R))
 
 arriving_closes : (s : State) (tick task line : ℕ) (follows : State → List Entry) → Together s → is_at s tick ≡ true → 1 ≤ line
@@ -219,7 +219,7 @@ table_printable text m = go (admit_verdict bytes m).answer (admit_verdict bytes 
     none : (row : ℕ) → row ≡ 0 → get_or (0 ∷ row_lines_in 1 (items_of text)) row 0 ≡ 0
     none row e = rw e refl
 
-    go : (a : Answer) (row : ℕ) → Admit_reason bytes m a row → is_done a ≡ false → Printable a (get_or (0 ∷ row_lines_in 1 (items_of text)) row 0)
+    go : (a : Answer) (row : ℕ) → AdmitReason bytes m a row → is_done a ≡ false → Printable a (get_or (0 ∷ row_lines_in 1 (items_of text)) row 0)
     go Done row R f = not_both _ (sym f)
     go Processors row R f = none row R.0
     go TableLength row R f = none row R.0

@@ -31,7 +31,7 @@ use Rattle.state.proofs.Opening.{in_no_queue}
 use Rattle.state.proofs.Passing.{advance_is, next_late, awake_at}
 use Rattle.state.proofs.Seizing.{c_top, frame_c}
 use Rattle.state.proofs.Shows.{Crew, Is, run_cond, wait_cond, next_same}
-use Rattle.state.proofs.Views.{Is_state}
+use Rattle.state.proofs.Views.{IsState}
 use Rattle.plane.specs.Rows.{Came}
 use Rattle.rules.proofs.Lasts.{awake_last, awake_came}
 use Rattle.state.proofs.Lasts.{last_kept}
@@ -100,7 +100,7 @@ events_ready {c} {w} {l} {m} {scale} {R} I S hs h_r he small stop hn before =
 
 -- OPENING AND CLOSING
 -- no last arrival of an awake task is after a tick that has not passed
-pub came_ready : (s : State) (l : List Task) → Is_state s l → 0 < s.table.scale → Lasts s.table.scale s.now.0 l → (tick : ℕ) → s.now.0 ≤ tick * s.table.scale → tick ≤ 18446744069414584320
+pub came_ready : (s : State) (l : List Task) → IsState s l → 0 < s.table.scale → Lasts s.table.scale s.now.0 l → (tick : ℕ) → s.now.0 ≤ tick * s.table.scale → tick ≤ 18446744069414584320
     → Came s.jobs.awake s.jobs.last s.table.count tick
 came_ready s l I hs L tick h small = record { few = I.tidy.few; past = past; small = small }
   where
@@ -112,7 +112,7 @@ came_ready s l I hs L tick h small = record { few = I.tidy.few; past = past; sma
         omega (arith, le_of_mul-le-mul_right b hs)
 
 -- a plane from the present, a whole tick, to tick e: the shares are at most the scale, and the order is the rules'
-pub open_ready : (s : State) (l : List Task) → Is_state s l → (tick e : ℕ) → s.now.0 ≡ tick * s.table.scale → tick ≤ e → e * s.table.scale < 18446744073709551616
+pub open_ready : (s : State) (l : List Task) → IsState s l → (tick e : ℕ) → s.now.0 ≡ tick * s.table.scale → tick ≤ e → e * s.table.scale < 18446744073709551616
     → ((i : ℕ) → i < s.table.count → get_or s.table.share i 0 ≤ s.table.scale) → length s.table.order ≡ 128 → take s.table.count s.table.order ≡ falling (shares_of l)
     → Opens (work_of (begun s e)) s.table.order s.table.share s.table.count (e - tick)
 open_ready s l I tick e whole later small shares rows order =

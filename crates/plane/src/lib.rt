@@ -11,7 +11,7 @@ ghost use Rattle.plane.specs.Rows.{rows, jobs, Came, CameAt};
 use ground::{Amount, Instant};
 
 // What stands still while the events of an instant happen: how many processors, the present, the plane's end.
-#[derive(Drop)]
+#[derive(Clone, Copy)]
 pub struct Plane {
     pub m: usize,
     pub now: Instant,
@@ -19,7 +19,7 @@ pub struct Plane {
 }
 
 // How many run and how many wait.
-#[derive(Drop)]
+#[derive(Clone, Copy)]
 pub struct Lengths {
     pub running: usize,
     pub waiting: usize,

@@ -15,7 +15,7 @@ use native.Mathlib.Omega.{arith}
 use Rattle.rules.specs.declared.Answer.TheVariants.{NotTogether}
 use Rattle.rules.specs.Answers.{is_done}
 use Rattle.rules.specs.Bounds.{clock}
-use Rattle.rules.specs.Reasons.{Arrive_reason}
+use Rattle.rules.specs.Reasons.{ArriveReason}
 use Rattle.rules.proofs.Jobs.{done_comes, done_is}
 use Rattle.rules.proofs.Refusing.{arrive_answers}
 use Rattle.rules.proofs.Standing.{facts}
@@ -75,5 +75,5 @@ module _ (s : State) (task : ℕ) (W : Whole s) (a : Answer) (e : a ≡ comes_an
 
   pub arrive_comes : is_done a ≡ true → MayCome s task
   arrive_comes d =
-      let R = subst (Arrive_reason (view s) task) (sym (arrive_same s task W) ∙ sym arrive_by ∙ done_is a d) (arrive_answers (view s) task) in
+      let R = subst (ArriveReason (view s) task) (sym (arrive_same s task W) ∙ sym arrive_by ∙ done_is a d) (arrive_answers (view s) task) in
       record { number = R.1.0; comes = done_comes (view s) task R }

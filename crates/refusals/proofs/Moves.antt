@@ -10,7 +10,7 @@ use Rattle.rules.specs.declared.Answer.{Answer}
 use Rattle.rules.specs.declared.Answer.TheVariants.{Done, HorizonPastClock, HorizonNotLater, RoomTooShort, NotTogether}
 use Rattle.rules.specs.Answers.{is_done}
 use Rattle.rules.specs.Bounds.{clock}
-use Rattle.rules.specs.Reasons.{Step_reason}
+use Rattle.rules.specs.Reasons.{StepReason}
 use Rattle.rules.proofs.Jobs.{done_is}
 use Rattle.rules.proofs.Refusing.{step_answers}
 use Rattle.state.specs.declared.State.{State}
@@ -60,5 +60,5 @@ module _ (s : State) (horizon room : ℕ) (W : Whole s) (a : Answer) (e : a ≡ 
 
   pub step_ahead : is_done a ≡ true → Ahead s horizon room
   step_ahead d =
-      let R = subst (Step_reason (view s) horizon room) (sym (step_same s horizon room W) ∙ sym step_by ∙ done_is a d) (step_answers (view s) horizon room) in
+      let R = subst (StepReason (view s) horizon room) (sym (step_same s horizon room W) ∙ sym step_by ∙ done_is a d) (step_answers (view s) horizon room) in
       record { whole = W; ahead = R.3; clock = R.2; space = R.1 }

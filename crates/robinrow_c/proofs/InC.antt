@@ -25,11 +25,11 @@ use Rattle.inplace.specs.Run.{run_room}
 use Rattle.calls.specs.Arrive.{arrive_of}
 use Rattle.calls.specs.Step.{step_of}
 use Rattle.calls.specs.Run.{run_of}
-use Rattle.demands.specs.Demands.{Call, Calls, calling, calling_all, starting, seen, Next_of}
+use Rattle.demands.specs.Demands.{Call, Calls, calling, calling_all, starting, seen, NextOf}
 use Rattle.demands.specs.Demands.Call.{arrive_call, step_call, run_call}
 use Rattle.demands.proofs.Demands.{demand_3}
 use Rattle.robinrow_c.specs.Struct.{Struct, state_of, struct_of}
-use Rattle.robinrow_c.specs.Exports.{arrive_number, arrive_struct, step_number, step_struct, step_record, run_number, run_count, run_struct, run_records, Held, holding, holding_all, seen_in, NextInC, In_c}
+use Rattle.robinrow_c.specs.Exports.{arrive_number, arrive_struct, step_number, step_struct, step_record, run_number, run_count, run_struct, run_records, Held, holding, holding_all, seen_in, NextInC, InC}
 use Rattle.robinrow_c.proofs.Struct.{struct_flagged, struct_state}
 use Rattle.robinrow_c.proofs.Refusals.{by_flags}
 
@@ -109,7 +109,7 @@ pub zero_done : (a : Answer) → number_of a ≡ 0 → a ≡ Done
 zero_done a e = done_is a (ap (λ n. eqb n 0) e)
 
 -- WHAT THE NEXT CALL IS ANSWERED
-next_held : (rows : List Row) (r : Calls) → Next_of rows r → NextInC rows (held r)
+next_held : (rows : List Row) (r : Calls) → NextOf rows r → NextInC rows (held r)
 next_held rows r N =
     record {
       takes = λ task tick lo hi e.
@@ -131,7 +131,7 @@ others_held c task z =
     (λ ok d j n. subst (λ (s : State). Untouched (at j (tasks_at (state_of c))) (at j (tasks_at s))) (sym (struct_state r.state)) (demand_3.others (state_of c) task z (zero_done _ d) j n))
     (λ d. absurd (omega (arith, d)))
 
-pub in_c : In_c
+pub in_c : InC
 in_c = record {
   same = same;
   jobs = λ bytes m a before task t later.

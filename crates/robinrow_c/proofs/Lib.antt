@@ -1,5 +1,5 @@
 pub mod Struct
 pub mod Exports
 pub mod Refusals
-pub mod In_c
+pub mod InC
 pub mod Rules

@@ -18,30 +18,30 @@ use Rattle.admission.specs.Admit.{admit_of}
 use Rattle.calls.specs.Arrive.{arrive_of}
 use Rattle.calls.specs.Step.{step_of}
 use Rattle.calls.specs.Run.{run_of}
-use Rattle.demands.specs.Demands.{One_of}
+use Rattle.demands.specs.Demands.{OneOf}
 use Rattle.demands.proofs.Demands.{demand_1, demand_2}
 use Rattle.robinrow_c.specs.Struct.{Struct, flagged, state_of, struct_of}
-use Rattle.robinrow_c.specs.Exports.{admit_number, admit_struct, arrive_number, step_number, run_number, run_struct, Numbers, together, ArrivesInC, StepsInC, Rules_in_c}
+use Rattle.robinrow_c.specs.Exports.{admit_number, admit_struct, arrive_number, step_number, run_number, run_struct, Numbers, together, ArrivesInC, StepsInC, RulesInC}
 use Rattle.flags.proofs.Flags.{both}
 use Rattle.robinrow_c.proofs.Struct.{struct_flagged, struct_state, state_struct}
 use Rattle.robinrow_c.proofs.Refusals.{by_flags, not_done}
-use Rattle.robinrow_c.proofs.In_c.{arrive_number_lem, arrive_struct_lem, step_number_lem, step_struct_lem, step_record_lem, zero_done}
+use Rattle.robinrow_c.proofs.InC.{arrive_number_lem, arrive_struct_lem, step_number_lem, step_struct_lem, step_record_lem, zero_done}
 
 -- LISTED NUMBERS
-arrive_listed : (c : Struct) (task : ℕ) → One_of (arrive_number c task) (0 ∷ 7 ∷ 8 ∷ 9 ∷ 13 ∷ [])
+arrive_listed : (c : Struct) (task : ℕ) → OneOf (arrive_number c task) (0 ∷ 7 ∷ 8 ∷ 9 ∷ 13 ∷ [])
 unfolding arrive_number
 arrive_listed c task =
-    by_flags c (λ b. One_of (if b then number_of (arrive_of (state_of c) task).answer else 13) (0 ∷ 7 ∷ 8 ∷ 9 ∷ 13 ∷ [])) (λ ok. (demand_1.arrives (state_of c) task).listed) (inr (inr (inr (inr (inl refl)))))
+    by_flags c (λ b. OneOf (if b then number_of (arrive_of (state_of c) task).answer else 13) (0 ∷ 7 ∷ 8 ∷ 9 ∷ 13 ∷ [])) (λ ok. (demand_1.arrives (state_of c) task).listed) (inr (inr (inr (inr (inl refl)))))
 
-step_listed : (c : Struct) (h : ℕ) (room : List ℕ) → One_of (step_number c h room) (0 ∷ 10 ∷ 11 ∷ 12 ∷ 13 ∷ [])
+step_listed : (c : Struct) (h : ℕ) (room : List ℕ) → OneOf (step_number c h room) (0 ∷ 10 ∷ 11 ∷ 12 ∷ 13 ∷ [])
 unfolding step_number
 step_listed c h room =
-    by_flags c (λ b. One_of (if b then number_of (step_of (state_of c) h (length room)).answer else 13) (0 ∷ 10 ∷ 11 ∷ 12 ∷ 13 ∷ [])) (λ ok. (demand_1.steps (state_of c) h room).listed) (inr (inr (inr (inr (inl refl)))))
+    by_flags c (λ b. OneOf (if b then number_of (step_of (state_of c) h (length room)).answer else 13) (0 ∷ 10 ∷ 11 ∷ 12 ∷ 13 ∷ [])) (λ ok. (demand_1.steps (state_of c) h room).listed) (inr (inr (inr (inr (inl refl)))))
 
-run_listed : (c : Struct) (h : ℕ) (room : List ℕ) → One_of (run_number c h room) (0 ∷ 10 ∷ 11 ∷ 12 ∷ 13 ∷ [])
+run_listed : (c : Struct) (h : ℕ) (room : List ℕ) → OneOf (run_number c h room) (0 ∷ 10 ∷ 11 ∷ 12 ∷ 13 ∷ [])
 unfolding run_number
 run_listed c h room =
-    by_flags c (λ b. One_of (if b then number_of (run_of (state_of c) h (length room)).answer else 13) (0 ∷ 10 ∷ 11 ∷ 12 ∷ 13 ∷ [])) (λ ok. (demand_1.runs (state_of c) h room).listed) (inr (inr (inr (inr (inl refl)))))
+    by_flags c (λ b. OneOf (if b then number_of (run_of (state_of c) h (length room)).answer else 13) (0 ∷ 10 ∷ 11 ∷ 12 ∷ 13 ∷ [])) (λ ok. (demand_1.runs (state_of c) h room).listed) (inr (inr (inr (inr (inl refl)))))
 
 pub numbers : Numbers
 numbers = record {
@@ -117,7 +117,7 @@ admitted_in table m d =
     let a = (demand_2.admits table m).state (zero_done _ d) in
     (ap view (struct_state s) ∙ a.0, struct_together s ∙ a.1)
 
-pub rules_in_c : Rules_in_c
+pub rules_in_c : RulesInC
 rules_in_c = record {
   admits = λ table m. ap number_of (demand_2.admits table m).answer;
   admitted = admitted_in;

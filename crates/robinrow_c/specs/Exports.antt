@@ -24,7 +24,7 @@ use Rattle.inplace.specs.Run.{run_room}
 use Rattle.calls.specs.Arrive.{arrive_of}
 use Rattle.calls.specs.Step.{step_of}
 use Rattle.calls.specs.Run.{run_of}
-use Rattle.demands.specs.Demands.{One_of, Call, read_records, starting, calling_all, seen}
+use Rattle.demands.specs.Demands.{OneOf, Call, read_records, starting, calling_all, seen}
 use Rattle.demands.specs.Demands.Call.{arrive_call, step_call, run_call}
 use Rattle.robinrow_c.specs.Struct.{Struct, flagged, state_of, struct_of}
 
@@ -75,10 +75,10 @@ pub record Refusals : Type 0 where
 
 -- DEMAND 1 of what C calls: a listed number, for any struct whatever
 pub record Numbers : Type 0 where
-  pub admit : (table : List ℕ) (m : ℕ) → One_of (admit_number table m) (0 ∷ 1 ∷ 2 ∷ 3 ∷ 4 ∷ 5 ∷ 6 ∷ [])
-  pub arrive : (c : Struct) (task : ℕ) → One_of (arrive_number c task) (0 ∷ 7 ∷ 8 ∷ 9 ∷ 13 ∷ [])
-  pub step : (c : Struct) (horizon : ℕ) (room : List ℕ) → One_of (step_number c horizon room) (0 ∷ 10 ∷ 11 ∷ 12 ∷ 13 ∷ [])
-  pub run : (c : Struct) (horizon : ℕ) (room : List ℕ) → One_of (run_number c horizon room) (0 ∷ 10 ∷ 11 ∷ 12 ∷ 13 ∷ [])
+  pub admit : (table : List ℕ) (m : ℕ) → OneOf (admit_number table m) (0 ∷ 1 ∷ 2 ∷ 3 ∷ 4 ∷ 5 ∷ 6 ∷ [])
+  pub arrive : (c : Struct) (task : ℕ) → OneOf (arrive_number c task) (0 ∷ 7 ∷ 8 ∷ 9 ∷ 13 ∷ [])
+  pub step : (c : Struct) (horizon : ℕ) (room : List ℕ) → OneOf (step_number c horizon room) (0 ∷ 10 ∷ 11 ∷ 12 ∷ 13 ∷ [])
+  pub run : (c : Struct) (horizon : ℕ) (room : List ℕ) → OneOf (run_number c horizon room) (0 ∷ 10 ∷ 11 ∷ 12 ∷ 13 ∷ [])
 
 -- a struct holds together: its flags are 0 or 1, and its state does
 unfoldable pub together : Struct → Bool
@@ -96,13 +96,13 @@ pub record StepsInC (c : Struct) (horizon : ℕ) (room : List ℕ) : Type 0 wher
   pub bytes : step_record c horizon room ≡ (step (view (state_of c)) horizon room).room
   pub again : together (step_struct c horizon room) ≡ true
 
-pub record Rules_in_c : Type 0 where
+pub record RulesInC : Type 0 where
   pub admits : (table : List ℕ) (m : ℕ) → admit_number table m ≡ number_of (admit table m).answer
   pub admitted : (table : List ℕ) (m : ℕ) → admit_number table m ≡ 0 → (view (state_of (admit_struct table m)) ≡ (admit table m).state) × (together (admit_struct table m) ≡ true)
   pub blank : (table : List ℕ) (m : ℕ) → ¬ (admit_number table m ≡ 0) → together (admit_struct table m) ≡ false
   pub arrives : (c : Struct) (task : ℕ) → Sized (state_of c) → (together c ≡ true → ArrivesInC c task) × (together c ≡ false → arrive_number c task ≡ 13)
   pub steps : (c : Struct) (horizon : ℕ) (room : List ℕ) → Sized (state_of c) → (together c ≡ true → StepsInC c horizon room) × (together c ≡ false → step_number c horizon room ≡ 13)
-  -- a run is refused exactly when a step is; `In_c` says of its records what it says of a step's
+  -- a run is refused exactly when a step is; `InC` says of its records what it says of a step's
   pub runs : (c : Struct) (horizon : ℕ) (room : List ℕ) → Sized (state_of c)
       → (run_number c horizon room ≡ step_number c horizon room) × (run_number c horizon room ≡ 0 → together (run_struct c horizon room) ≡ true)
 
@@ -150,7 +150,7 @@ pub record NextInC (rows : List Row) (r : Held) : Type 0 where
       → (step_number r.struct horizon room ≡ 0) × (r.struct.now < (step_struct r.struct horizon room).now) × ((step_struct r.struct horizon room).now ≤ horizon * scale_of rows)
 
 -- DEMAND 3 of what C calls
-pub record In_c : Type 0 where
+pub record InC : Type 0 where
   -- any calls on the struct are the calls on the state
   pub same : (bytes : List ℕ) (m : ℕ) (calls : List Call) → seen_in (holding_all bytes m calls) ≡ seen (calling_all (starting bytes m) calls)
   pub jobs : (bytes : List ℕ) (m : ℕ) → admit_number bytes m ≡ 0 → (before : List Call) (task : ℕ) → arrive_number (holding_all bytes m before).struct task ≡ 0 → (later : List Call)

@@ -63,16 +63,16 @@ module _ {m : ℕ} (l : List Task) (S : Seats m l) where
   all_used h = omega (arith, seats_count m l S.low S.high, range_ones 1 m, range_le (λ x. 1) (λ p. sum_of (on p) l) 1 m (λ x a b. busy_used x a (h x a b)))
 
 -- the lowest idle processor, as the search finds it
-abbrev pub Is_idle : List Task → ℕ → ℕ → Option ℕ → Type 0
-Is_idle l p n none = (x : ℕ) → p ≤ x → x < p + n → 0 < on_proc x 1 l
-Is_idle l p n (some y) = (p ≤ y) × (y < p + n) × (on_proc y 1 l ≡ 0) × ((x : ℕ) → p ≤ x → x < y → 0 < on_proc x 1 l)
+abbrev pub IsIdle : List Task → ℕ → ℕ → Option ℕ → Type 0
+IsIdle l p n none = (x : ℕ) → p ≤ x → x < p + n → 0 < on_proc x 1 l
+IsIdle l p n (some y) = (p ≤ y) × (y < p + n) × (on_proc y 1 l ≡ 0) × ((x : ℕ) → p ≤ x → x < y → 0 < on_proc x 1 l)
 
-pub idle_is : (l : List Task) (p n : ℕ) → Is_idle l p n (lowest_idle l p n)
+pub idle_is : (l : List Task) (p n : ℕ) → IsIdle l p n (lowest_idle l p n)
 unfolding lowest_idle
 idle_is l p zero = λ x a b. absurd (omega arith)
 idle_is l p (suc n) = go (on_proc p 1 l) refl (lowest_idle l (suc p) n) (idle_is l (suc p) n)
   where
-    go : (k : ℕ) → on_proc p 1 l ≡ k → (o : Option ℕ) → Is_idle l (suc p) n o → Is_idle l p (suc n) (elim k [ zero ↦ some p | suc k ↦ o ])
+    go : (k : ℕ) → on_proc p 1 l ≡ k → (o : Option ℕ) → IsIdle l (suc p) n o → IsIdle l p (suc n) (elim k [ zero ↦ some p | suc k ↦ o ])
     go zero e o h = (omega arith, omega arith, e, λ x a b. absurd (omega arith))
     go (suc k) e none h = λ x a b. next x a b (ℕ_discrete p x)
       where
@@ -165,7 +165,7 @@ module _ {m scale now e : ℕ} (i tick : ℕ) (l : List Task) (hi : i < length l
   F = facts l P.table
 
   a_pos : 0 < (at i l).share * (e - tick)
-  a_pos = let h = later in let hl : 0 < e - tick = omega arith in mul-le-mul (F.some_Share i hi) hl
+  a_pos = let h = later in let hl : 0 < e - tick = omega arith in mul-le-mul (F.some_share i hi) hl
 
   a_small : (at i l).share * (e - tick) ≤ e * scale - now
   a_small = rw R_is (omega (arith, mul-le-mul_right (e - tick) (F.most i)))
@@ -279,7 +279,7 @@ module _ {m scale now e : ℕ} (i tick : ℕ) (l : List Task) (hi : i < length l
       }
 
   -- "If a processor is idle, take the lowest. Else, if the share is below L, wait. Else take the processor of the running task with the least key"
-  pub arrives : (s : State) → s.tasks ≡ l → s.now ≡ now → s.scale ≡ scale → (o : Option ℕ) → Is_idle l 1 m o → Arrives (arrive_idle s tick i a o)
+  pub arrives : (s : State) → s.tasks ≡ l → s.now ≡ now → s.scale ≡ scale → (o : Option ℕ) → IsIdle l 1 m o → Arrives (arrive_idle s tick i a o)
   unfolding arrive_idle seize
   arrives s es en ec (some p) h = rw es (arrived_as (running p a) (wake i tick (running p a) l) refl refl (fits_run p h.0 (omega (arith, h.1)) h.2) (kept_refl _))
   arrives s es en ec none h = rw (es, ec, en) (if_by Arrives (ltb (at i l).share scale) (ltb_says (at i l).share scale) light heavy)

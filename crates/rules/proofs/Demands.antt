@@ -24,9 +24,9 @@ use Rattle.rules.specs.Events.{next_at}
 use Rattle.rules.specs.Planes.{end_of, opened}
 use Rattle.rules.specs.Record.{Record, on_proc, slots_of}
 use Rattle.rules.specs.Calls.{arrive_answer, arriving, arrive, Moved, after, moving, step_answer, step}
-use Rattle.rules.specs.Demands.{Job, Course, Next_of, Demand3, Others_stay}
+use Rattle.rules.specs.Demands.{Job, Course, NextOf, Demand3, OthersStay}
 use Rattle.rules.specs.History.{In, Within, came_by, plane_end}
-use Rattle.rules.specs.Reasons.{Arrive_reason}
+use Rattle.rules.specs.Reasons.{ArriveReason}
 use Rattle.rules.specs.Run.{Arrival, Call, arrive_call, step_call, Run, perform, starting, perform_all, run_of}
 use Rattle.rules.specs.Scale.{scale_of}
 use Rattle.rules.specs.State.{Task, State, no_row, at, short, is_awake, tick_of, fresh, admitted}
@@ -154,7 +154,7 @@ pub course_of : (rows : List Row) (m : ℕ) (r : Run) → Good rows r → Within
 course_of rows m r G W = record { once = G.once; follows = G.follows; within = W; working = G.working; seams = G.seams }
 
 -- the next call
-pub next_of : (rows : List Row) (r : Run) → Good rows r → Next_of rows r
+pub next_of : (rows : List Row) (r : Run) → Good rows r → NextOf rows r
 next_of rows r G = record { takes = takes; moves = moves }
   where
     s : State
@@ -166,7 +166,7 @@ next_of rows r G = record { takes = takes; moves = moves }
     takes : (task tick : ℕ) → 1 ≤ task → task ≤ length rows → r.state.now ≡ tick * scale_of rows
         → ((arrive r.state task).answer ≡ Done) ↔ ((a : ℕ) → came_by task tick r.arrivals ≡ some a → a + (get_or rows (task - 1) no_row).period ≤ tick)
     takes task tick lo hi e = unfold arrive in (
-      (λ d. let R = subst (Arrive_reason r.state task) d (arrive_answers r.state task) in λ a c. seen a (λ lt. R.3 (a, sym latest ∙ c, rw tk (omega (arith, lt, per))))),
+      (λ d. let R = subst (ArriveReason r.state task) d (arrive_answers r.state task) in λ a c. seen a (λ lt. R.3 (a, sym latest ∙ c, rw tk (omega (arith, lt, per))))),
       (λ f. arrive_exact r.state task Done (
         holds_is s G.together,
         (lo, omega (arith, size_is rows r G)),
@@ -231,10 +231,10 @@ demand_3 = record {
         here = unfold run_of perform in (rw a (inl refl))
 
 -- NOTHING ELSE MOVES
-pub others_stay : Others_stay
+pub others_stay : OthersStay
 unfolding arrive
 others_stay s task d j n =
-    let R = subst (Arrive_reason s task) d (arrive_answers s task) in
+    let R = subst (ArriveReason s task) d (arrive_answers s task) in
     let c = (arriving_takes s (task - 1) (together_is s R.0) (done_comes s task R)).others j (λ q. n (omega (arith, R.1))) in
     rw d (record {
       row = ap (λ (x : Core). x.row) c;

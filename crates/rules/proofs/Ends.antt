@@ -12,7 +12,7 @@ use lib.Dec.{leb, ltb, eqb}
 use lib.ListN.{length, get_or}
 use Rattle.ground.specs.Tests.{if◌then◌else◌}
 use Rattle.ground.proofs.Tests.{leb_says, ltb_says, is_false, if_by}
-use Rattle.rules.specs.History.{Ends_at, came_by, limit_by, limits_by, earliest, plane_end}
+use Rattle.rules.specs.History.{EndsAt, came_by, limit_by, limits_by, earliest, plane_end}
 use Rattle.rules.specs.Planes.{limit, end_of}
 use Rattle.rules.specs.Record.{Record}
 use Rattle.rules.specs.Run.{Arrival}
@@ -20,12 +20,12 @@ use Rattle.rules.specs.State.{Task, no_row, at, short}
 use Rattle.rules.specs.Table.{Row, shorter}
 
 -- SEAMS
-pub ends_more : (to : ℕ) (rs : List Record) (r : Record) → Ends_at to rs → Ends_at to (rs ++ (r ∷ []))
+pub ends_more : (to : ℕ) (rs : List Record) (r : Record) → EndsAt to rs → EndsAt to (rs ++ (r ∷ []))
 ends_more to [] r h = absurd h
 ends_more to (x ∷ rs) r (inl e) = inl e
 ends_more to (x ∷ rs) r (inr h) = inr (ends_more to rs r h)
 
-pub ends_last : (to : ℕ) (rs : List Record) (r : Record) → r.to ≡ to → Ends_at to (rs ++ (r ∷ []))
+pub ends_last : (to : ℕ) (rs : List Record) (r : Record) → r.to ≡ to → EndsAt to (rs ++ (r ∷ []))
 ends_last to [] r e = inl e
 ends_last to (x ∷ rs) r e = inr (ends_last to rs r e)
 

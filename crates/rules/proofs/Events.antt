@@ -18,7 +18,7 @@ use Rattle.rules.specs.Keys.{run_key, wait_key, Best, nope, best, least}
 use Rattle.rules.specs.State.{Cond, asleep, resting, running, waiting, Task, nobody, at, become, is_awake, amount, proc, runs, waits}
 use Rattle.rules.specs.Table.{Row}
 use Rattle.rules.proofs.Cases.{amount_of, runs_of, waits_of, wait_key_of, give_to, take_from, b_case}
-use Rattle.rules.proofs.Places.{at_same, at_other, length_become, one_become, keeps, anywhere, sum_two, Is_least, least_is, by_places}
+use Rattle.rules.proofs.Places.{at_same, at_other, length_become, one_become, keeps, anywhere, sum_two, IsLeast, least_is, by_places}
 use Rattle.rules.proofs.Plane.{Fits, is_waiting, not_running, is_running, give_ok, rest_ok, Alive, crowded, victim, seize_ok}
 
 -- an open plane with R sub-ticks left, between steps
@@ -54,11 +54,11 @@ kept_trans a b = record { size = b.size ∙ a.size; same = λ j. b.same j ∙ a.
 pub kept_become : (l : List Task) (i : ℕ) (c d : Cond) → i < length l → (at i l).cond ≡ c → core_in (at i l) d ≡ core_in (at i l) c → Kept l (become i d l)
 kept_become l i c d hi e f = record { size = length_become l i d; same = keeps core l i d hi (f ∙ ap (core_in (at i l)) (sym e)) }
 
-pub kept_give : (end p : ℕ) (l : List Task) (b : Best) → Is_least (wait_key end) l b → Kept l (give_to p l b)
+pub kept_give : (end p : ℕ) (l : List Task) (b : Best) → IsLeast (wait_key end) l b → Kept l (give_to p l b)
 kept_give end p l nope h = kept_refl l
 kept_give end p l (best i k) h = kept_become l i _ _ h.0 (is_waiting end (at i l).cond k h.1).0 refl
 
-pub kept_take : (now i : ℕ) (l : List Task) → i < length l → (at i l).cond ≡ waiting (amount (at i l)) → (b : Best) → Is_least (run_key now) l b → Kept l (take_from i l b)
+pub kept_take : (now i : ℕ) (l : List Task) → i < length l → (at i l).cond ≡ waiting (amount (at i l)) → (b : Best) → IsLeast (run_key now) l b → Kept l (take_from i l b)
 kept_take now i l hi e nope h = kept_refl l
 kept_take now i l hi e (best j k) h =
     let f = (is_running now (at j l).cond k h.1).0 in
@@ -68,7 +68,7 @@ kept_take now i l hi e (best j k) h =
     (kept_become (become j d l) i (waiting (amount (at i l))) _ (rw length_become hi) (rw (at_other l j i d ne) e) refl)
 
 -- B EVENTS
-pub give_alive : (end p : ℕ) (l : List Task) → ((i : ℕ) → waits (at i l) ≤ amount (at i l)) → (b : Best) → Is_least (wait_key end) l b
+pub give_alive : (end p : ℕ) (l : List Task) → ((i : ℕ) → waits (at i l) ≤ amount (at i l)) → (b : Best) → IsLeast (wait_key end) l b
     → (j : ℕ) → runs (at j l) ≤ amount (at j l) → runs (at j (give_to p l b)) ≤ amount (at j (give_to p l b))
 give_alive end p l w nope h j a = a
 give_alive end p l w (best i k) h j a =
@@ -105,12 +105,12 @@ module _ (m scale R : ℕ) where
   b_ok end l i hi F (running p a) e =
       if_by (BDone l i) (eqb a 0) (eqb_says a 0) (λ z. b_due end p l i hi F (rw z at e)) (λ z. b_still l i F (omega (arith, ap runs_of e, ap amount_of e)))
 
-  abbrev pub After_b : List Task → ℕ → List Task → Type 0
-  After_b l₀ n l = Fits 0 m scale R l × ((j : ℕ) → j < n → runs (at j l) ≤ amount (at j l)) × Kept l₀ l
+  abbrev pub AfterB : List Task → ℕ → List Task → Type 0
+  AfterB l₀ n l = Fits 0 m scale R l × ((j : ℕ) → j < n → runs (at j l) ≤ amount (at j l)) × Kept l₀ l
 
-  pub b_all_lem : (end : ℕ) (l : List Task) → Fits 0 m scale R l → After_b l (length l) (b_events end l)
+  pub b_all_lem : (end : ℕ) (l : List Task) → Fits 0 m scale R l → AfterB l (length l) (b_events end l)
   unfolding b_events b_event
-  b_all_lem end l F = by_places (b_event end) (length l) (After_b l)
+  b_all_lem end l F = by_places (b_event end) (length l) (AfterB l)
       (λ i k hi q.
       let d = b_ok end k i (omega (arith, q.2.size)) q.0 (at i k).cond refl in (
         d.fits,
@@ -171,7 +171,7 @@ module _ (m scale R : ℕ) where
 
     -- a critical task takes a processor: one less is late
     fewer_late : (i : ℕ) (l : List Task) → i < length l → (at i l).cond ≡ waiting (amount (at i l)) → R ≤ amount (at i l) → Fits 0 m scale R l
-        → (b : Best) → Is_least (run_key now) l b → sum_of late (take_from i l b) + 1 ≡ sum_of late l
+        → (b : Best) → IsLeast (run_key now) l b → sum_of late (take_from i l b) + 1 ≡ sum_of late l
     fewer_late i l hi e h F nope L =
         absurd (crowded h_r hs i l hi e F h (λ j. let z : runs (at j l) ≡ 0 = not_running now (at j l).cond (L j) in rw z (omega arith)))
     fewer_late i l hi e h F (best j k) L =
@@ -201,7 +201,7 @@ module _ (m scale R : ℕ) where
         still : ((j k : ℕ) → wait_key end (at j l) ≡ some k → now < k) → CDone l l
         still f = nobody_late l F A (sum_of_none late nobody l (λ j hj. quiet j (at j l).cond refl (f j)))
 
-        turn : Turns n → (i k : ℕ) → Is_least (wait_key end) l (best i k) → k ≤ now → CDone l (c_events_in n end now (take_from i l (least (run_key now) l)))
+        turn : Turns n → (i k : ℕ) → IsLeast (wait_key end) l (best i k) → k ≤ now → CDone l (c_events_in n end now (take_from i l (least (run_key now) l)))
         turn rest i k L due =
             let w = is_waiting end (at i l).cond k L.1 in
             let a : R ≤ amount (at i l) = omega (arith, w.1) in
@@ -211,7 +211,7 @@ module _ (m scale R : ℕ) where
             let d = rest (take_from i l b) s.0 s.1 (omega (arith, fewer_late i l L.0 w.0 a F b B)) in
             record { stands = d.stands; kept = kept_trans (kept_take now i l L.0 w.0 b B) d.kept }
 
-        go : Turns n → (b : Best) → Is_least (wait_key end) l b
+        go : Turns n → (b : Best) → IsLeast (wait_key end) l b
             → CDone l (elim b [ nope ↦ l | best i k ↦ elim (leb k now) [ true ↦ c_events_in n end now (take_from i l (least (run_key now) l)) | false ↦ l ] ])
         go rest nope L = still (λ j k e. none_some (wait_key end (at j l)) k (L j) e)
           where

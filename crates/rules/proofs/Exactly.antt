@@ -9,30 +9,30 @@ use lib.ListN.{length, get_or}
 use Rattle.rules.specs.declared.Answer.{Answer}
 use Rattle.rules.specs.Admission.{Verdict, admit_verdict, admit}
 use Rattle.rules.specs.Calls.{arrive, step}
-use Rattle.rules.specs.Exactly.{Exactly_when, Multiple, Measures}
-use Rattle.rules.specs.Reasons.{Rows_ok, Admit_reason, Arrive_reason, Step_reason}
+use Rattle.rules.specs.Exactly.{ExactlyWhen, Multiple, Measures}
+use Rattle.rules.specs.Reasons.{RowsOk, AdmitReason, ArriveReason, StepReason}
 use Rattle.rules.specs.Scale.{scale_of}
 use Rattle.rules.specs.State.{State, no_row}
 use Rattle.rules.specs.Table.{Row}
 use Rattle.rules.proofs.Refusing.{admit_answers, admit_exact, arrive_answers, arrive_exact, step_answers, step_exact}
 use Rattle.rules.proofs.Scale.{Positive, scale_positive, scale_multiple, scale_least, share_exact, share_at_most, share_positive}
 
-pub exactly_when : Exactly_when
+pub exactly_when : ExactlyWhen
 exactly_when = record { admits = admits; arrives = arrives; steps = steps }
   where
-    admits : (bytes : List ℕ) (m : ℕ) (a : Answer) (i : ℕ) → (((admit bytes m).answer ≡ a) × ((admit bytes m).row ≡ i)) ↔ Admit_reason bytes m a i
+    admits : (bytes : List ℕ) (m : ℕ) (a : Answer) (i : ℕ) → (((admit bytes m).answer ≡ a) × ((admit bytes m).row ≡ i)) ↔ AdmitReason bytes m a i
     admits bytes m a i = unfold admit in (
-      (λ e. subst (λ (x : Answer). Admit_reason bytes m x i) e.0 (subst (Admit_reason bytes m (admit_verdict bytes m).answer) e.1 (admit_answers bytes m))),
+      (λ e. subst (λ (x : Answer). AdmitReason bytes m x i) e.0 (subst (AdmitReason bytes m (admit_verdict bytes m).answer) e.1 (admit_answers bytes m))),
       (λ R. let e = admit_exact bytes m a i R in (ap (λ (v : Verdict). v.answer) e, ap (λ (v : Verdict). v.row) e)),
     )
 
-    arrives : (s : State) (task : ℕ) (a : Answer) → ((arrive s task).answer ≡ a) ↔ Arrive_reason s task a
-    arrives s task a = unfold arrive in ((λ e. subst (Arrive_reason s task) e (arrive_answers s task)), arrive_exact s task a)
+    arrives : (s : State) (task : ℕ) (a : Answer) → ((arrive s task).answer ≡ a) ↔ ArriveReason s task a
+    arrives s task a = unfold arrive in ((λ e. subst (ArriveReason s task) e (arrive_answers s task)), arrive_exact s task a)
 
-    steps : (s : State) (horizon : ℕ) (room : List ℕ) (a : Answer) → ((step s horizon room).answer ≡ a) ↔ Step_reason s horizon (length room) a
-    steps s h room a = unfold step in ((λ e. subst (Step_reason s h (length room)) e (step_answers s h (length room))), step_exact s h (length room) a)
+    steps : (s : State) (horizon : ℕ) (room : List ℕ) (a : Answer) → ((step s horizon room).answer ≡ a) ↔ StepReason s horizon (length room) a
+    steps s h room a = unfold step in ((λ e. subst (StepReason s h (length room)) e (step_answers s h (length room))), step_exact s h (length room) a)
 
-positive : (rows : List Row) → Rows_ok rows → Positive rows
+positive : (rows : List Row) → RowsOk rows → Positive rows
 positive rows ok i h = let r = (ok i h).0 in let a = r.0.0 in let b = r.2.0 in omega arith
 
 pub measures : Measures

@@ -16,7 +16,7 @@ use Rattle.rules.specs.Answers.{number_of, is_done}
 use Rattle.rules.specs.Calls.{arrive_answer}
 use Rattle.rules.specs.Figures.{ArrivedAgo, Figures}
 use Rattle.rules.specs.Listings.{row, scale_in}
-use Rattle.rules.specs.Reasons.{In_range, Processors_ok, Length_ok, Rows_ok, Admit_reason}
+use Rattle.rules.specs.Reasons.{InRange, ProcessorsOk, LengthOk, RowsOk, AdmitReason}
 use Rattle.rules.specs.Scale.{gcd_in, gcd, lcm, scale_from, scale_of, share_of}
 use Rattle.rules.specs.State.{State, blank, admitted, at, period}
 use Rattle.rules.specs.Table.{Row, rows_of, shorter, table_bytes}
@@ -30,21 +30,21 @@ use Rattle.rules.proofs.Standing.{facts}
 use mathlib.Core.Option.{some-injective}
 
 -- a reason gives its number and row, and done gives the scale of the rows
-told : (rows : List Row) (m : ℕ) (a : Answer) (i : ℕ) → Admit_reason (table_bytes rows) m a i → admits rows m ≡ (number_of a, i)
+told : (rows : List Row) (m : ℕ) (a : Answer) (i : ℕ) → AdmitReason (table_bytes rows) m a i → admits rows m ≡ (number_of a, i)
 told rows m a i h = ap (λ (v : Verdict). (number_of v.answer, v.row)) (admit_exact (table_bytes rows) m a i h)
 
-scale_told : (rows : List Row) (m : ℕ) → Admit_reason (table_bytes rows) m Done 0 → scale_in rows m ≡ scale_of (rows_of (table_bytes rows))
+scale_told : (rows : List Row) (m : ℕ) → AdmitReason (table_bytes rows) m Done 0 → scale_in rows m ≡ scale_of (rows_of (table_bytes rows))
 unfolding scale_in admit
 scale_told rows m h =
     let rs = rows_of (table_bytes rows) in
     ap (λ (v : Verdict). (if is_done v.answer then admitted m rs else blank).scale) (admit_exact (table_bytes rows) m Done 0 h)
 
 -- a table of one row
-module _ (r : Row) (p : In_range r.period) (e : In_range r.exec) (d : In_range r.deadline) where
+module _ (r : Row) (p : InRange r.period) (e : InRange r.exec) (d : InRange r.deadline) where
   rows_are : rows_of (table_bytes (r ∷ [])) ≡ r ∷ []
   rows_are = table_rows (r ∷ []) ((omega (arith, p.1), omega (arith, e.1), omega (arith, d.1)), tt)
 
-  length_ok : Length_ok (length (table_bytes (r ∷ [])))
+  length_ok : LengthOk (length (table_bytes (r ∷ [])))
   length_ok = rw (length_table (r ∷ [])) (lit≤ tt, lit≤ tt, refl)
 
   scale_one : scale_of (r ∷ []) ≡ shorter r
@@ -62,26 +62,26 @@ module _ (r : Row) (p : In_range r.period) (e : In_range r.exec) (d : In_range r
         rw (rows_are, scale_one) (omega (arith, share_at_most (shorter r) r h)),
       )
     where
-      ok : Rows_ok (r ∷ [])
+      ok : RowsOk (r ∷ [])
       ok = elim [ zero ↦ λ _. ((p, e, d), h) | suc j ↦ λ hj. absurd (omega arith) ]
 
-  one_refused : (m : ℕ) → Processors_ok m → shorter r < r.exec → admits (r ∷ []) m ≡ (4, 1)
+  one_refused : (m : ℕ) → ProcessorsOk m → shorter r < r.exec → admits (r ∷ []) m ≡ (4, 1)
   one_refused m ok h =
       let z : 1 - 1 ≡ 0 = refl in
       told (r ∷ []) m RowExecution 1 (lit≤ tt, rw rows_are (lit≤ tt), ok, length_ok, (λ j hj. absurd (omega arith)), rw rows_are (p, e, d), rw rows_are h)
 
 -- a table of two rows, each with e = 1: q of the first is 1,048,576
-module _ (m p d p' d' : ℕ) (ok : Processors_ok m) (a : In_range p) (b : In_range d) (a' : In_range p') (b' : In_range d') (first : min p d ≡ 1048576) where
+module _ (m p d p' d' : ℕ) (ok : ProcessorsOk m) (a : InRange p) (b : InRange d) (a' : InRange p') (b' : InRange d') (first : min p d ≡ 1048576) where
   abbrev two : List Row
   two = row p 1 d ∷ row p' 1 d' ∷ []
 
   two_are : rows_of (table_bytes two) ≡ two
   two_are = table_rows two ((omega (arith, a.1), lit≤ tt, omega (arith, b.1)), ((omega (arith, a'.1), lit≤ tt, omega (arith, b'.1)), tt))
 
-  two_long : Length_ok (length (table_bytes two))
+  two_long : LengthOk (length (table_bytes two))
   two_long = rw (length_table two) (lit≤ tt, lit≤ tt, refl)
 
-  two_ok : Rows_ok two
+  two_ok : RowsOk two
   two_ok = elim [ zero ↦ λ _. ((a, (lit≤ tt, lit≤ tt), b), omega arith) | suc zero ↦ λ _. ((a', (lit≤ tt, lit≤ tt), b'), omega arith) | suc (suc j) ↦ λ h. absurd (omega arith) ]
 
   two_scale : (q : ℕ) → min p' d' ≡ q → scale_of two ≡ lcm (lcm 1 1048576) q
@@ -92,7 +92,7 @@ module _ (m p d p' d' : ℕ) (ok : Processors_ok m) (a : In_range p) (b : In_ran
   unfolding lcm gcd gcd_in sum_of share_of
   two_admitted second =
       let s = two_scale 127 second in
-      let h : Admit_reason (table_bytes two) m Done 0 =
+      let h : AdmitReason (table_bytes two) m Done 0 =
       (refl, ok, two_long, rw two_are two_ok, rw (two_are, s) (lit≤ tt), rw (two_are, s, first, second) (omega (arith, ok))) in
       (told two m Done 0 h, scale_told two m h ∙ rw two_are s)
 

@@ -114,10 +114,10 @@ seats_says s =
     (every_up_says (λ p. sum_of (on p) s.tasks ≤ 1) (λ p. leb (sum_of (on p) s.tasks) 1) (λ p. leb_says (sum_of (on p) s.tasks) 1) 1 s.m))
 
 -- LAST ARRIVALS
-abbrev Last_ok : ℕ → ℕ → Task → Type 0
-Last_ok scale now t = (Awake t → (a : ℕ) × (t.last ≡ some a)) × ((a : ℕ) → t.last ≡ some a → a * scale ≤ now)
+abbrev LastOk : ℕ → ℕ → Task → Type 0
+LastOk scale now t = (Awake t → (a : ℕ) × (t.last ≡ some a)) × ((a : ℕ) → t.last ≡ some a → a * scale ≤ now)
 
-last_says : (s : State) (t : Task) → Says (Last_ok s.scale s.now t) (last_holds s t)
+last_says : (s : State) (t : Task) → Says (LastOk s.scale s.now t) (last_holds s t)
 last_says s t = go t.last (is_awake t.cond)
   where
     go : (o : Option ℕ) (w : Bool) → Says ((w ≡ true → (a : ℕ) × (o ≡ some a)) × ((a : ℕ) → o ≡ some a → a * s.scale ≤ s.now)) (elim o [ none ↦ not w | some a ↦ leb (a * s.scale) s.now ])
@@ -130,11 +130,11 @@ pub lasts_says : (s : State) → Says (Lasts s.scale s.now s.tasks) (lasts_hold 
 unfolding lasts_hold
 lasts_says s =
     says_as (lasts_hold s) of (λ L j _. (L.known j, L.came j))
-    (every_says (Last_ok s.scale s.now) (last_holds s) nobody (last_says s) s.tasks)
+    (every_says (LastOk s.scale s.now) (last_holds s) nobody (last_says s) s.tasks)
   where
-    of : ((j : ℕ) → j < length s.tasks → Last_ok s.scale s.now (at j s.tasks)) → Lasts s.scale s.now s.tasks
+    of : ((j : ℕ) → j < length s.tasks → LastOk s.scale s.now (at j s.tasks)) → Lasts s.scale s.now s.tasks
     of h =
-        let all = anywhere (Last_ok s.scale s.now) s.tasks ((λ e. not_both _ e), λ a e. never e) h in
+        let all = anywhere (LastOk s.scale s.now) s.tasks ((λ e. not_both _ e), λ a e. never e) h in
         record { known = λ j. (all j).0; came = λ j. (all j).1 }
 
 -- A CLOSED PLANE
@@ -143,10 +143,10 @@ tick_says s =
     let d = div-add-mod' s.now s.scale in
     says_as (on_tick s) (λ h. omega arith) (λ h. omega arith) (eqb_says (s.now % s.scale) 0)
 
-abbrev Rest_ok : ℕ → Task → Type 0
-Rest_ok tick t = (runs t + waits t ≡ 0) × (Awake t → tick < due t)
+abbrev RestOk : ℕ → Task → Type 0
+RestOk tick t = (runs t + waits t ≡ 0) × (Awake t → tick < due t)
 
-rest_says : (tick : ℕ) (t : Task) → Says (Rest_ok tick t) (rests_at tick t)
+rest_says : (tick : ℕ) (t : Task) → Says (RestOk tick t) (rests_at tick t)
 rest_says tick t =
     and_says (runs t + waits t ≡ 0) (Awake t → tick < due t) (eqb (runs t + waits t) 0) (if is_awake t.cond then ltb tick (due t) else true)
     (eqb_says (runs t + waits t) 0) (go (is_awake t.cond))
@@ -159,18 +159,18 @@ pub shut_says : (s : State) → Says (Shut s.scale s.now s.tasks) (closed_holds 
 unfolding closed_holds
 shut_says s =
     says_as (closed_holds s) of (λ S. (S.whole, λ j _. (S.idle j, S.due j)))
-    (and_says _ _ (on_tick s) (every (rests_at (tick_of s)) s.tasks) (tick_says s) (every_says (Rest_ok (tick_of s)) (rests_at (tick_of s)) nobody (rest_says (tick_of s)) s.tasks))
+    (and_says _ _ (on_tick s) (every (rests_at (tick_of s)) s.tasks) (tick_says s) (every_says (RestOk (tick_of s)) (rests_at (tick_of s)) nobody (rest_says (tick_of s)) s.tasks))
   where
-    of : (s.now / s.scale * s.scale ≡ s.now) × ((j : ℕ) → j < length s.tasks → Rest_ok (tick_of s) (at j s.tasks)) → Shut s.scale s.now s.tasks
+    of : (s.now / s.scale * s.scale ≡ s.now) × ((j : ℕ) → j < length s.tasks → RestOk (tick_of s) (at j s.tasks)) → Shut s.scale s.now s.tasks
     of h =
-        let all = anywhere (Rest_ok (tick_of s)) s.tasks (refl, λ e. not_both _ e) h.1 in
+        let all = anywhere (RestOk (tick_of s)) s.tasks (refl, λ e. not_both _ e) h.1 in
         record { whole = h.0; idle = λ j. (all j).0; due = λ j. (all j).1 }
 
 -- AN OPEN PLANE
-abbrev Amount_ok : ℕ → Cond → Type 0
-Amount_ok left c = (runs_of c ≤ amount_of c) × (waits_of c ≤ amount_of c) × (amount_of c + waits_of c ≤ left)
+abbrev AmountOk : ℕ → Cond → Type 0
+AmountOk left c = (runs_of c ≤ amount_of c) × (waits_of c ≤ amount_of c) × (amount_of c + waits_of c ≤ left)
 
-amount_says : (left : ℕ) (c : Cond) → Says (Amount_ok left c) (amount_fits left c)
+amount_says : (left : ℕ) (c : Cond) → Says (AmountOk left c) (amount_fits left c)
 amount_says left asleep = (omega arith, omega arith, omega arith)
 amount_says left resting = (omega arith, omega arith, omega arith)
 amount_says left (running p a) =
@@ -215,12 +215,12 @@ ceil_is s pos = if_by (Ceil s.scale s.now) (on_tick s) (tick_says s)
         go (yes h) = h
         go (no h) = absurd (n (omega (arith, div-add-mod' s.now s.scale)))
 
-abbrev Limit_ok : ℕ → ℕ → ℕ → Task → Type 0
-Limit_ok scale now e t =
+abbrev LimitOk : ℕ → ℕ → ℕ → Task → Type 0
+LimitOk scale now e t =
     (Awake t → e ≤ due t)
     × (¬ Awake t → (x : ℕ) → now ≤ x * scale → ((a : ℕ) → t.last ≡ some a → a + period t ≤ x) → e ≤ x + short t)
 
-limit_says : (scale now tick e : ℕ) → Ceil scale now tick → (t : Task) → Says (Limit_ok scale now e t) (limit_holds tick e t)
+limit_says : (scale now tick e : ℕ) → Ceil scale now tick → (t : Task) → Says (LimitOk scale now e t) (limit_holds tick e t)
 limit_says scale now tick e C t = go (is_awake t.cond)
   where
     by : (o : Option ℕ) → Says ((x : ℕ) → now ≤ x * scale → ((a : ℕ) → o ≡ some a → a + period t ≤ x) → e ≤ x + short t) (leb e ((elim o [ none ↦ tick | some a ↦ max tick (a + period t) ]) + short t))
@@ -246,16 +246,16 @@ going_says s e pos =
     says_as (open_holds s e) of
     (λ G. (G.later, ((λ j _. (G.alive j, G.left j, G.below j)), (G.busy, (G.total, λ j hj. (G.due j, G.free j hj))))))
     (and_says _ _ (ltb s.now (e * s.scale)) _ (ltb_says s.now (e * s.scale))
-    (and_says _ _ (every (λ (t : Task). amount_fits R t.cond) l) _ (every_says (λ (t : Task). Amount_ok R t.cond) (λ (t : Task). amount_fits R t.cond) nobody (λ t. amount_says R t.cond) l)
+    (and_says _ _ (every (λ (t : Task). amount_fits R t.cond) l) _ (every_says (λ (t : Task). AmountOk R t.cond) (λ (t : Task). amount_fits R t.cond) nobody (λ t. amount_says R t.cond) l)
     (and_says _ _ (idle_holds s.m l) _ (idle_says s.m l)
     (and_says _ _ (sum_holds s.scale R l) (every (limit_holds (ceil_tick s) e) l) (leb_says (sum_of amount l * s.scale) (sum_of awake_share l * R))
-    (every_says (Limit_ok s.scale s.now e) (limit_holds (ceil_tick s) e) nobody (limit_says s.scale s.now (ceil_tick s) e (ceil_is s pos)) l)))))
+    (every_says (LimitOk s.scale s.now e) (limit_holds (ceil_tick s) e) nobody (limit_says s.scale s.now (ceil_tick s) e (ceil_is s pos)) l)))))
   where
-    of : (s.now < e * s.scale) × (((j : ℕ) → j < length s.tasks → Amount_ok (e * s.scale - s.now) (at j s.tasks).cond) × ((0 < sum_of waits s.tasks → sum_of runs s.tasks ≡ s.m)
-        × ((sum_of amount s.tasks * s.scale ≤ sum_of awake_share s.tasks * (e * s.scale - s.now)) × ((j : ℕ) → j < length s.tasks → Limit_ok s.scale s.now e (at j s.tasks)))))
+    of : (s.now < e * s.scale) × (((j : ℕ) → j < length s.tasks → AmountOk (e * s.scale - s.now) (at j s.tasks).cond) × ((0 < sum_of waits s.tasks → sum_of runs s.tasks ≡ s.m)
+        × ((sum_of amount s.tasks * s.scale ≤ sum_of awake_share s.tasks * (e * s.scale - s.now)) × ((j : ℕ) → j < length s.tasks → LimitOk s.scale s.now e (at j s.tasks)))))
         → Going s.m s.scale s.now e s.tasks
     of h =
-        let all = anywhere (λ t. Amount_ok (e * s.scale - s.now) (t.cond)) s.tasks (omega arith, omega arith, omega arith) h.1.0 in
+        let all = anywhere (λ t. AmountOk (e * s.scale - s.now) (t.cond)) s.tasks (omega arith, omega arith, omega arith) h.1.0 in
         record {
           later = h.0;
           alive = λ j. (all j).0;

@@ -19,9 +19,9 @@ use Rattle.ground.proofs.Tests.{leb_says, ltb_says, eqb_says, is_true, is_false}
 use Rattle.rules.specs.Answers.{is_done}
 use Rattle.rules.specs.Calls.{lowest_idle, arrive_in, arriving, arrive_answer, arrive, after, moving, step_answer, step}
 use Rattle.rules.specs.Demands.{Reached, Job}
-use Rattle.rules.specs.History.{earliest, limits_by, ran, Once, In, Working, Follows, Ends_at, came_by, limit_by, plane_end}
+use Rattle.rules.specs.History.{earliest, limits_by, ran, Once, In, Working, Follows, EndsAt, came_by, limit_by, plane_end}
 use Rattle.rules.specs.Planes.{limit, end_of}
-use Rattle.rules.specs.Reasons.{Arrive_reason, Step_reason, Comes}
+use Rattle.rules.specs.Reasons.{ArriveReason, StepReason, Comes}
 use Rattle.rules.specs.Record.{Record}
 use Rattle.rules.specs.Run.{Arrival, Call, arrive_call, step_call, Run, perform, perform_all}
 use Rattle.rules.specs.Scale.{scale_of}
@@ -43,9 +43,9 @@ use Rattle.rules.proofs.Lasts.{never, last_is, awake_last, awake_came}
 
 -- RUNS
 -- the state's plane is the one that the arrivals give: its k-th end lies behind it
-abbrev pub In_plane : List Row → Run → ℕ → Option ℕ → Type 0
-In_plane rows r k none = plane_end rows r.arrivals k * scale_of rows ≡ r.state.now
-In_plane rows r k (some e) = (plane_end rows r.arrivals k * scale_of rows < r.state.now) × (plane_end rows r.arrivals (suc k) ≡ e)
+abbrev pub InPlane : List Row → Run → ℕ → Option ℕ → Type 0
+InPlane rows r k none = plane_end rows r.arrivals k * scale_of rows ≡ r.state.now
+InPlane rows r k (some e) = (plane_end rows r.arrivals k * scale_of rows < r.state.now) × (plane_end rows r.arrivals (suc k) ≡ e)
 
 abbrev pub Jobs : List Row → Run → Arrival → Type 0
 Jobs rows r x = (0 < x.task) × (x.task ≤ length rows) × Job rows r x.task x.tick
@@ -58,8 +58,8 @@ pub record Good (rows : List Row) (r : Run) : Type 0 where
   pub follows : Follows 0 r.records r.state.now
   pub working : Working (scale_of rows) rows r.arrivals r.records
   pub latest : (j : ℕ) → j < length rows → (t : ℕ) → r.state.now ≤ t * scale_of rows → came_by (suc j) t r.arrivals ≡ (at j r.state.tasks).last
-  pub plane : (k : ℕ) × In_plane rows r k r.state.plane
-  pub seams : (k t : ℕ) → Reached rows r (suc k) t → Ends_at (t * scale_of rows) r.records
+  pub plane : (k : ℕ) × InPlane rows r k r.state.plane
+  pub seams : (k t : ℕ) → Reached rows r (suc k) t → EndsAt (t * scale_of rows) r.records
   pub jobs : (x : Arrival) → In x r.arrivals → Jobs rows r x
 
 came_in : (n t a : ℕ) (xs : List Arrival) → came_by n t xs ≡ some a → In (record { task = n; tick = a }) xs
@@ -148,7 +148,7 @@ module _ (rows : List Row) (r : Run) (G : Good rows r) where
   next_end : (k : ℕ) × (plane_end rows r.arrivals k * scale_of rows ≤ r.state.now) × (plane_end rows r.arrivals (suc k) ≡ end_in r.state r.state.plane)
   next_end = go r.state.plane refl G.plane
     where
-      go : (p : Option ℕ) → r.state.plane ≡ p → ((k : ℕ) × In_plane rows r k p)
+      go : (p : Option ℕ) → r.state.plane ≡ p → ((k : ℕ) × InPlane rows r k p)
           → (k : ℕ) × (plane_end rows r.arrivals k * scale_of rows ≤ r.state.now) × (plane_end rows r.arrivals (suc k) ≡ end_in r.state p)
       go (some e) q K = (K.0, omega (arith, K.1.0), K.1.1)
       go none q K =
@@ -193,8 +193,8 @@ pub record Steps (r : Run) (h : ℕ) (room : List ℕ) : Type 0 where
   pub records : (perform r (step_call h room)).records ≡ r.records ++ ((moving r.state h).rec ∷ [])
 
 module _ (rows : List Row) (r : Run) (G : Good rows r) (h : ℕ) (room : List ℕ) (d : step_answer r.state h (length room) ≡ Done) where
-  reason : Step_reason r.state h (length room) Done
-  reason = subst (Step_reason r.state h (length room)) d (step_answers r.state h (length room))
+  reason : StepReason r.state h (length room) Done
+  reason = subst (StepReason r.state h (length room)) d (step_answers r.state h (length room))
 
   abbrev L : ℕ
   L = scale_of rows
@@ -274,10 +274,10 @@ module _ (rows : List Row) (r : Run) (G : Good rows r) (h : ℕ) (room : List �
               let W = J.awake (omega (arith, D.ahead, mul-le-mul_right L hq, ap (λ x. x * L) te)) in
               rw (served W t te z) (omega (arith, ap (λ y. y * (t - a)) (exact_share rows r G (n - 1) (omega arith))))
 
-      whole : (a + q) * L ≤ (moving r.state h).state.now → (ran n (a * L) ((a + q) * L) made.records ≡ (get_or rows (n - 1) no_row).exec * L) × Ends_at ((a + q) * L) made.records
+      whole : (a + q) * L ≤ (moving r.state h).state.now → (ran n (a * L) ((a + q) * L) made.records ≡ (get_or rows (n - 1) no_row).exec * L) × EndsAt ((a + q) * L) made.records
       whole le = go (dec_le ((a + q) * L) r.state.now)
         where
-          go : Dec ((a + q) * L ≤ r.state.now) → (ran n (a * L) ((a + q) * L) made.records ≡ (get_or rows (n - 1) no_row).exec * L) × Ends_at ((a + q) * L) made.records
+          go : Dec ((a + q) * L ≤ r.state.now) → (ran n (a * L) ((a + q) * L) made.records ≡ (get_or rows (n - 1) no_row).exec * L) × EndsAt ((a + q) * L) made.records
           go (yes k) = (kept (a + q) k ∙ (J.whole k).0, ends_more ((a + q) * L) r.records (moving r.state h).rec (J.whole k).1)
           go (no k) =
               let W = J.awake (omega arith) in
@@ -303,19 +303,19 @@ module _ (rows : List Row) (r : Run) (G : Good rows r) (h : ℕ) (room : List �
       far : (n : ℕ) → 0 < scale_of rows → n ≤ suc n * scale_of rows
       far n p = let p' : 1 ≤ scale_of rows = p in omega (arith, native.Mathlib.Nat.mul-le-mul_left (suc n) p')
 
-  seams_after : (k t : ℕ) → Reached rows made (suc k) t → Ends_at (t * L) made.records
+  seams_after : (k t : ℕ) → Reached rows made (suc k) t → EndsAt (t * L) made.records
   seams_after k t R = go (reached_by rows r G (suc k) t to R.0 (omega (arith, R.1, M.arrives)) up_to_end)
     where
-      go : ((t * L ≤ r.state.now) ⊎ (t ≡ e)) → Ends_at (t * L) made.records
+      go : ((t * L ≤ r.state.now) ⊎ (t ≡ e)) → EndsAt (t * L) made.records
       go (inl le) = ends_more (t * L) r.records (moving r.state h).rec (G.seams k t (R.0, le))
       go (inr te) = ends_last (t * L) r.records (moving r.state h).rec (new_end t te R.1)
 
-  plane_after : (k : ℕ) × In_plane rows made k (moving r.state h).state.plane
+  plane_after : (k : ℕ) × InPlane rows made k (moving r.state h).state.plane
   plane_after =
       let N = next_end rows r G in
       elim D.by_end [
-        | inl a ↦ (N.0, subst (λ p. In_plane rows made N.0 p) (sym a.1) (omega (arith, N.1, M.from_now, M.later, M.arrives), N.2))
-        | inr b ↦ (suc N.0, subst (λ p. In_plane rows made (suc N.0) p) (sym b.1) (ap (λ x. x * L) N.2 ∙ sym b.0 ∙ sym M.arrives))
+        | inl a ↦ (N.0, subst (λ p. InPlane rows made N.0 p) (sym a.1) (omega (arith, N.1, M.from_now, M.later, M.arrives), N.2))
+        | inr b ↦ (suc N.0, subst (λ p. InPlane rows made (suc N.0) p) (sym b.1) (ap (λ x. x * L) N.2 ∙ sym b.0 ∙ sym M.arrives))
       ]
 
   step_good : Good rows (perform r (step_call h room))
@@ -365,7 +365,7 @@ arrive_books s rs i H C (some e) q B =
 not_soon : {a b : ℕ} → ¬ (a < b) → b ≤ a
 not_soon n = omega arith
 
-pub done_comes : (s : State) (task : ℕ) → Arrive_reason s task Done → Comes s (task - 1)
+pub done_comes : (s : State) (task : ℕ) → ArriveReason s task Done → Comes s (task - 1)
 done_comes s task R = record { known = omega (arith, R.1); whole = R.2; late = λ a e. not_soon (λ c. R.3 (a, e, c)) }
 
 -- the latest arrival, with one more at the present
@@ -377,7 +377,7 @@ came_other : (n t : ℕ) (x : Arrival) (xs : List Arrival) → x.task ≢ n → 
 unfolding came_by
 came_other n t x xs e = rw (is_false (eqb x.task n) (eqb_says x.task n) e) refl
 
-module _ (rows : List Row) (r : Run) (G : Good rows r) (task : ℕ) (R : Arrive_reason r.state task Done) where
+module _ (rows : List Row) (r : Run) (G : Good rows r) (task : ℕ) (R : ArriveReason r.state task Done) where
   abbrev tick : ℕ
   tick = tick_of r.state
 
@@ -446,10 +446,10 @@ module _ (rows : List Row) (r : Run) (G : Good rows r) (task : ℕ) (R : Arrive_
           came_other (suc j) t this r.arrivals (λ q. n (omega arith)) ∙ G.latest j hj t le
           ∙ sym (ap (λ (x : Core). x.last) c)
 
-  plane_now : (k : ℕ) × In_plane rows came k r.state.plane
+  plane_now : (k : ℕ) × InPlane rows came k r.state.plane
   plane_now = go r.state.plane G.plane
     where
-      go : (p : Option ℕ) → ((k : ℕ) × In_plane rows r k p) → (k : ℕ) × In_plane rows came k p
+      go : (p : Option ℕ) → ((k : ℕ) × InPlane rows r k p) → (k : ℕ) × InPlane rows came k p
       go none K =
           let e = ends_kept_from rows (some_row rows r G) (some_q rows r G) this r.arrivals K.0 (within _ (omega (arith, K.1))) in
           (K.0, ap (λ x. x * scale_of rows) e ∙ K.1 ∙ sym same_now)
@@ -478,7 +478,7 @@ module _ (rows : List Row) (r : Run) (G : Good rows r) (task : ℕ) (R : Arrive_
 
 arrive_good : (rows : List Row) (r : Run) → Good rows r → (task : ℕ) → arrive_answer r.state task ≡ Done → Good rows (perform r (arrive_call task))
 unfolding perform arrive
-arrive_good rows r G task d = rw d (came_good rows r G task (subst (Arrive_reason r.state task) d (arrive_answers r.state task)))
+arrive_good rows r G task d = rw d (came_good rows r G task (subst (ArriveReason r.state task) d (arrive_answers r.state task)))
 
 -- done, or refused
 pub by_answer : (P : Type 0) (a : Answer) → (a ≡ Done → P) → (is_done a ≡ false → P) → P

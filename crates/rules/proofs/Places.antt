@@ -87,9 +87,9 @@ one_two P l i j c d hi hj ne p q x h =
     one_become P (become j d l) i c (rw length_become hi) (rw (at_other l j i d ne) p) x (one_become P l j d hj q x h)
 
 -- THE LEAST KEY
-abbrev pub Is_least : (Task → Option ℕ) → List Task → Best → Type 0
-Is_least key l nope = (j : ℕ) → key (at j l) ≡ none
-Is_least key l (best i k) = (i < length l) × (key (at i l) ≡ some k) × ((j k' : ℕ) → key (at j l) ≡ some k' → k ≤ k')
+abbrev pub IsLeast : (Task → Option ℕ) → List Task → Best → Type 0
+IsLeast key l nope = (j : ℕ) → key (at j l) ≡ none
+IsLeast key l (best i k) = (i < length l) × (key (at i l) ≡ some k) × ((j k' : ℕ) → key (at j l) ≡ some k' → k ≤ k')
 
 module _ (key : Task → Option ℕ) (key_nobody : key nobody ≡ none) where
   -- the bound for t ∷ l, from the one at t and the one in l
@@ -104,18 +104,18 @@ module _ (key : Task → Option ℕ) (key_nobody : key nobody ≡ none) where
   here : (o : Option ℕ) (k k' : ℕ) → o ≡ some k → o ≡ some k' → k ≡ k'
   here o k k' p q = cc
 
-  better_is : (t : Task) (l : List Task) (o : Option ℕ) → key t ≡ o → (b : Best) → Is_least key l b → Is_least key (t ∷ l) (better o b)
+  better_is : (t : Task) (l : List Task) (o : Option ℕ) → key t ≡ o → (b : Best) → IsLeast key l b → IsLeast key (t ∷ l) (better o b)
   unfolding better
   better_is t l none e nope h = elim [ zero ↦ e | suc j ↦ h j ]
   better_is t l none e (best i k) h = (omega arith, h.1, below t l k (λ k'. not_here (key t) k k' e) h.2)
   better_is t l (some k) e nope h =
       (omega arith, e, below t l k (λ k' q. omega (arith, here (key t) k k' e q)) (λ j k' q. not_here (key (at j l)) k k' (h j) q))
   better_is t l (some k) e (best j k') h =
-      if_by (Is_least key (t ∷ l)) (leb k k') (leb_says k k')
+      if_by (IsLeast key (t ∷ l)) (leb k k') (leb_says k k')
       (λ a. (omega arith, e, below t l k (λ k'' q. omega (arith, here (key t) k k'' e q)) (λ j k'' q. omega (arith, h.2 j k'' q))))
       (λ a. (omega arith, h.1, below t l k' (λ k'' q. omega (arith, here (key t) k k'' e q)) h.2))
 
-  pub least_is : (l : List Task) → Is_least key l (least key l)
+  pub least_is : (l : List Task) → IsLeast key l (least key l)
   unfolding least
   least_is [] = λ j. key_nobody
   least_is (t ∷ l) = better_is t l (key t) refl (least key l) (least_is l)

@@ -17,7 +17,7 @@ use Rattle.ground.proofs.Tests.{eqb_says}
 use Rattle.rules.specs.Keys.{run_key, wait_key, Best, nope, best}
 use Rattle.rules.specs.State.{Cond, asleep, resting, running, waiting, Task, nobody, at, become, is_awake, amount, proc, runs, waits, on, awake_share}
 use Rattle.rules.proofs.Cases.{amount_of, proc_of, runs_of, waits_of, on_of_lem, run_key_of, wait_key_of, give_to, take_from}
-use Rattle.rules.proofs.Places.{at_same, length_become, sum_become, all_become, sum_two, one_two, Is_least}
+use Rattle.rules.proofs.Places.{at_same, length_become, sum_become, all_become, sum_two, one_two, IsLeast}
 
 -- c processors were just freed and not yet given on
 pub record Fits (c m scale R : ℕ) (l : List Task) : Type 0 where
@@ -66,7 +66,7 @@ on_self p false e = absurd (e refl)
 
 module _ {c m scale R : ℕ} where
   pub give_ok : (end p : ℕ) (l : List Task) → Fits (suc c) m scale R l → 0 < p → p ≤ m → sum_of (on p) l ≡ 0
-      → (b : Best) → Is_least (wait_key end) l b → Fits c m scale R (give_to p l b)
+      → (b : Best) → IsLeast (wait_key end) l b → Fits c m scale R (give_to p l b)
   give_ok end p l F hp hm free nope h =
       let w : sum_of waits l ≡ 0 = sum_of_none waits nobody l (λ j hj. not_waiting end (at j l).cond (h j)) in
       record {
@@ -159,7 +159,7 @@ module _ {m scale R : ℕ} (h_r : 0 < R) (hs : 0 < scale) where
 
   -- the running task with the least key has less than the rest of the plane
   pub victim : (now i j k : ℕ) (l : List Task) → i < length l → (at i l).cond ≡ waiting (amount (at i l)) → R ≤ amount (at i l) → Fits 0 m scale R l
-      → Is_least (run_key now) l (best j k) → amount (at j l) < R
+      → IsLeast (run_key now) l (best j k) → amount (at j l) < R
   victim now i j k l hi e h F L = go (dec_lt (amount (at j l)) R)
     where
       each : R ≤ amount (at j l) → (x : ℕ) (c : Cond) → (at x l).cond ≡ c → runs_of c * R ≤ amount_of c
@@ -174,7 +174,7 @@ module _ {m scale R : ℕ} (h_r : 0 < R) (hs : 0 < scale) where
 
   -- task i, which must run to the end, takes the processor of the running task with the least key
   pub seize_ok : (now i : ℕ) (l : List Task) → i < length l → (at i l).cond ≡ waiting (amount (at i l)) → R ≤ amount (at i l) → Fits 0 m scale R l → Alive l
-      → (b : Best) → Is_least (run_key now) l b
+      → (b : Best) → IsLeast (run_key now) l b
       → Fits 0 m scale R (take_from i l b) × Alive (take_from i l b) × (waits (at i (take_from i l b)) ≡ 0)
       × ((j : ℕ) → amount (at j l) + waits (at j l) ≤ R → amount (at j (take_from i l b)) + waits (at j (take_from i l b)) ≤ R)
   seize_ok now i l hi e h F A nope L =

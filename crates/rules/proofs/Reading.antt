@@ -41,19 +41,19 @@ length_table [] = refl
 length_table (r ∷ rs) = omega (arith, length-append (row_bytes r) (table_bytes rs), length_row r, length_table rs)
 
 -- every number of a row fits 32 bits
-abbrev pub Row_fits : Row → Type 0
-Row_fits r = (r.period ≤ 4294967295) × (r.exec ≤ 4294967295) × (r.deadline ≤ 4294967295)
+abbrev pub RowFits : Row → Type 0
+RowFits r = (r.period ≤ 4294967295) × (r.exec ≤ 4294967295) × (r.deadline ≤ 4294967295)
 
-abbrev pub Rows_fit : List Row → Type 0
-Rows_fit [] = Unit {0}
-Rows_fit (r ∷ rs) = Row_fits r × Rows_fit rs
+abbrev pub RowsFit : List Row → Type 0
+RowsFit [] = Unit {0}
+RowsFit (r ∷ rs) = RowFits r × RowsFit rs
 
 -- a word of four bytes in front, and the rest
 word_front : (x : ℕ) (l : List ℕ) → x ≤ 4294967295 → number (take 4 (le 4 x ++ l)) ≡ x
 word_front x l h = ap number (take_at (le 4 x) l 4 (length_le 4 x)) ∙ number_le 4 x (omega arith)
 
 -- the row that stands after `before`
-row_at_lem : (before rest : List ℕ) (i : ℕ) (r : Row) → length before ≡ 12 * i → Row_fits r → row_at (before ++ (row_bytes r ++ rest)) i ≡ r
+row_at_lem : (before rest : List ℕ) (i : ℕ) (r : Row) → length before ≡ 12 * i → RowFits r → row_at (before ++ (row_bytes r ++ rest)) i ≡ r
 row_at_lem before rest i r e f =
     let p = le 4 r.period in
     let x = le 4 r.exec in
@@ -77,7 +77,7 @@ row_at_lem before rest i r e f =
     ∙ ap (λ (b : ℕ). made r.period b (word_at (12 * i + 8) all)) w1
     ∙ ap (λ (c : ℕ). made r.period r.exec c) w2
 
-rows_from : (before : List ℕ) (i : ℕ) (rs : List Row) → length before ≡ 12 * i → Rows_fit rs → map (row_at (before ++ table_bytes rs)) (up_from i (length rs)) ≡ rs
+rows_from : (before : List ℕ) (i : ℕ) (rs : List Row) → length before ≡ 12 * i → RowsFit rs → map (row_at (before ++ table_bytes rs)) (up_from i (length rs)) ≡ rs
 unfolding table_bytes up_from
 rows_from before i [] e f = refl
 rows_from before i (r ∷ rs) e f =
@@ -88,7 +88,7 @@ rows_from before i (r ∷ rs) e f =
     ∙ ap (λ (l : List Row). r ∷ l) rest
 
 -- the rows of a table's bytes
-pub table_rows : (rs : List Row) → Rows_fit rs → rows_of (table_bytes rs) ≡ rs
+pub table_rows : (rs : List Row) → RowsFit rs → rows_of (table_bytes rs) ≡ rs
 unfolding rows_of
 table_rows rs f =
     let pos : 0 < 12 = omega arith in

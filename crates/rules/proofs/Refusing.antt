@@ -17,7 +17,7 @@ use Rattle.rules.specs.Admission.{processors_ok, length_ok, fault_of, Verdict, p
 use Rattle.rules.specs.Answers.{is_done}
 use Rattle.rules.specs.Calls.{task_known, too_soon, arrive_answer, step_answer}
 use Rattle.rules.specs.Holds.{holds}
-use Rattle.rules.specs.Reasons.{Processors_ok, Length_ok, Row_in_range, Row_ok, Rows_ok, Admit_reason, Task_known, On_tick, Soon, Arrive_reason, Step_reason}
+use Rattle.rules.specs.Reasons.{ProcessorsOk, LengthOk, RowInRange, RowOk, RowsOk, AdmitReason, TaskKnown, OnTick, Soon, ArriveReason, StepReason}
 use Rattle.rules.specs.Scale.{scale_of, share_of, fits}
 use Rattle.rules.specs.State.{Task, State, no_row, at, period, tick_of, on_tick}
 use Rattle.rules.specs.Table.{Row, rows_of, shorter, row_in_range}
@@ -27,10 +27,10 @@ use Rattle.rules.proofs.Lasts.{never}
 use mathlib.Core.Option.{Option, none, some, some-injective}
 
 -- ARRIVE
-known_says : (s : State) (task : ℕ) → Says (Task_known s task) (task_known s task)
+known_says : (s : State) (task : ℕ) → Says (TaskKnown s task) (task_known s task)
 known_says s task = and_says (1 ≤ task) (task ≤ length s.tasks) (leb 1 task) (leb task (length s.tasks)) (leb_says 1 task) (leb_says task (length s.tasks))
 
-on_tick_says : (s : State) → Says (On_tick s) (on_tick s)
+on_tick_says : (s : State) → Says (OnTick s) (on_tick s)
 on_tick_says s = says_as (on_tick s) (λ h. omega (arith, div-add-mod' s.now s.scale)) (λ h. omega (arith, div-add-mod' s.now s.scale)) (eqb_says (s.now % s.scale) 0)
 
 soon_says : (s : State) (t : Task) → Says (Soon s t) (too_soon (tick_of s) t)
@@ -41,14 +41,14 @@ soon_says s t = go t.last
         says_as (ltb (tick_of s) (b + period t)) (λ h. (b, refl, h)) (λ h. let z = some-injective b h.0 h.1 in omega (arith, h.2)) (ltb_says (tick_of s) (b + period t))
     go none = λ h. never h.1
 
-pub arrive_answers : (s : State) (task : ℕ) → Arrive_reason s task (arrive_answer s task)
+pub arrive_answers : (s : State) (task : ℕ) → ArriveReason s task (arrive_answer s task)
 unfolding arrive_answer
 arrive_answers s task =
     let t = at (task - 1) s.tasks in
     go (holds s) refl (task_known s task) (known_says s task) (on_tick s) (on_tick_says s) (too_soon (tick_of s) t) (soon_says s t)
   where
-    go : (a : Bool) → holds s ≡ a → (b : Bool) → Says (Task_known s task) b → (c : Bool) → Says (On_tick s) c → (d : Bool) → Says (Soon s (at (task - 1) s.tasks)) d
-        → Arrive_reason s task (if not a then NotTogether else (if not b then TaskNumber else (if not c then BetweenTicks else (if d then TooSoon else Done))))
+    go : (a : Bool) → holds s ≡ a → (b : Bool) → Says (TaskKnown s task) b → (c : Bool) → Says (OnTick s) c → (d : Bool) → Says (Soon s (at (task - 1) s.tasks)) d
+        → ArriveReason s task (if not a then NotTogether else (if not b then TaskNumber else (if not c then BetweenTicks else (if d then TooSoon else Done))))
     go false p b q c r d u = p
     go true p false q c r d u = (p, q)
     go true p true q false r d u = (p, q, r)
@@ -56,13 +56,13 @@ arrive_answers s task =
     go true p true q true r false u = (p, q, r, u)
 
 -- STEP
-pub step_answers : (s : State) (horizon room : ℕ) → Step_reason s horizon room (step_answer s horizon room)
+pub step_answers : (s : State) (horizon room : ℕ) → StepReason s horizon room (step_answer s horizon room)
 unfolding step_answer
 step_answers s h n =
     go (holds s) refl (ltb n 48) (ltb_says n 48) (ltb clock h) (ltb_says clock h) (leb (h * s.scale) s.now) (leb_says (h * s.scale) s.now)
   where
     go : (a : Bool) → holds s ≡ a → (b : Bool) → Says (n < 48) b → (c : Bool) → Says (clock < h) c → (d : Bool) → Says (h * s.scale ≤ s.now) d
-        → Step_reason s h n (if not a then NotTogether else (if b then RoomTooShort else (if c then HorizonPastClock else (if d then HorizonNotLater else Done))))
+        → StepReason s h n (if not a then NotTogether else (if b then RoomTooShort else (if c then HorizonPastClock else (if d then HorizonNotLater else Done))))
     go false p b q c r d u = p
     go true p true q c r d u = (p, q)
     go true p false q true r d u = (p, omega arith, r)
@@ -71,38 +71,38 @@ step_answers s h n =
 
 -- ADMIT
 -- what is the matter with a row
-abbrev Row_fault : Row → Answer → Type 0
-Row_fault r Done = Row_ok r
-Row_fault r RowRange = ¬ Row_in_range r
-Row_fault r RowExecution = Row_in_range r × (shorter r < r.exec)
-Row_fault r Processors = ⊥
-Row_fault r TableLength = ⊥
-Row_fault r Scale = ⊥
-Row_fault r Shares = ⊥
-Row_fault r TaskNumber = ⊥
-Row_fault r BetweenTicks = ⊥
-Row_fault r TooSoon = ⊥
-Row_fault r HorizonPastClock = ⊥
-Row_fault r HorizonNotLater = ⊥
-Row_fault r RoomTooShort = ⊥
-Row_fault r NotTogether = ⊥
-Row_fault r TextForm = ⊥
+abbrev RowFault : Row → Answer → Type 0
+RowFault r Done = RowOk r
+RowFault r RowRange = ¬ RowInRange r
+RowFault r RowExecution = RowInRange r × (shorter r < r.exec)
+RowFault r Processors = ⊥
+RowFault r TableLength = ⊥
+RowFault r Scale = ⊥
+RowFault r Shares = ⊥
+RowFault r TaskNumber = ⊥
+RowFault r BetweenTicks = ⊥
+RowFault r TooSoon = ⊥
+RowFault r HorizonPastClock = ⊥
+RowFault r HorizonNotLater = ⊥
+RowFault r RoomTooShort = ⊥
+RowFault r NotTogether = ⊥
+RowFault r TextForm = ⊥
 
-row_answers : (r : Row) → Row_fault r (fault_of r)
+row_answers : (r : Row) → RowFault r (fault_of r)
 row_answers r = go (row_in_range r) (row_says r) (ltb (shorter r) r.exec) (ltb_says (shorter r) r.exec)
   where
-    go : (a : Bool) → Says (Row_in_range r) a → (b : Bool) → Says (shorter r < r.exec) b → Row_fault r (if not a then RowRange else (if b then RowExecution else Done))
+    go : (a : Bool) → Says (RowInRange r) a → (b : Bool) → Says (shorter r < r.exec) b → RowFault r (if not a then RowRange else (if b then RowExecution else Done))
     go true p true q = (p, q)
     go true p false q = (p, omega arith)
     go false p b q = p
 
 -- what the search for the first faulty row found among the rows from number n + 1 on
 abbrev Fault : ℕ → List Row → Answer → ℕ → Type 0
-Fault n rs RowRange i = (n < i) × (i ≤ n + length rs) × ((j : ℕ) → n + j + 1 < i → Row_ok (get_or rs j no_row)) × ¬ Row_in_range (get_or rs (i - n - 1) no_row)
+Fault n rs RowRange i = (n < i) × (i ≤ n + length rs) × ((j : ℕ) → n + j + 1 < i → RowOk (get_or rs j no_row)) × ¬ RowInRange (get_or rs (i - n - 1) no_row)
 Fault n rs RowExecution i =
-    (n < i) × (i ≤ n + length rs) × ((j : ℕ) → n + j + 1 < i → Row_ok (get_or rs j no_row)) × Row_in_range (get_or rs (i - n - 1) no_row)
+    (n < i) × (i ≤ n + length rs) × ((j : ℕ) → n + j + 1 < i → RowOk (get_or rs j no_row)) × RowInRange (get_or rs (i - n - 1) no_row)
     × (shorter (get_or rs (i - n - 1) no_row) < (get_or rs (i - n - 1) no_row).exec)
-Fault n rs Done i = (i ≡ 0) × Rows_ok rs
+Fault n rs Done i = (i ≡ 0) × RowsOk rs
 Fault n rs Processors i = ⊥
 Fault n rs TableLength i = ⊥
 Fault n rs Scale i = ⊥
@@ -117,10 +117,10 @@ Fault n rs NotTogether i = ⊥
 Fault n rs TextForm i = ⊥
 
 -- a row in order in front
-fault_later : (n : ℕ) (r : Row) (rs : List Row) → Row_ok r → (a : Answer) (i : ℕ) → Fault (suc n) rs a i → Fault n (r ∷ rs) a i
+fault_later : (n : ℕ) (r : Row) (rs : List Row) → RowOk r → (a : Answer) (i : ℕ) → Fault (suc n) rs a i → Fault n (r ∷ rs) a i
 fault_later n r rs ok a i f = by a f
   where
-    before : ((j : ℕ) → suc n + j + 1 < i → Row_ok (get_or rs j no_row)) → (j : ℕ) → n + j + 1 < i → Row_ok (get_or (r ∷ rs) j no_row)
+    before : ((j : ℕ) → suc n + j + 1 < i → RowOk (get_or rs j no_row)) → (j : ℕ) → n + j + 1 < i → RowOk (get_or (r ∷ rs) j no_row)
     before h zero q = ok
     before h (suc j) q = h j (omega arith)
 
@@ -156,7 +156,7 @@ faults_answers n (r ∷ rs) = go (fault_of r) (row_answers r) (faults_answers (s
     here : get_or (r ∷ rs) (suc n - n - 1) no_row ≡ r
     here = let e : suc n - n - 1 ≡ 0 = omega arith in rw e
 
-    go : (a : Answer) → Row_fault r a → Fault (suc n) rs (fault_from (suc (suc n)) rs).answer (fault_from (suc (suc n)) rs).row
+    go : (a : Answer) → RowFault r a → Fault (suc n) rs (fault_from (suc (suc n)) rs).answer (fault_from (suc (suc n)) rs).row
         → Fault n (r ∷ rs) (found n rs a).answer (found n rs a).row
     go Done p ih = fault_later n r rs p (fault_from (suc (suc n)) rs).answer (fault_from (suc (suc n)) rs).row ih
     go RowRange p ih = (omega arith, omega arith, (λ j h. absurd (omega arith)), rw here p)
@@ -174,29 +174,29 @@ faults_answers n (r ∷ rs) = go (fault_of r) (row_answers r) (faults_answers (s
     go NotTogether p ih = absurd p
     go TextForm p ih = absurd p
 
-length_says : (n : ℕ) → Says (Length_ok n) (length_ok n)
+length_says : (n : ℕ) → Says (LengthOk n) (length_ok n)
 length_says n =
     says_as (length_ok n) (λ h. (h.0, h.1.0, h.1.1)) (λ h. (h.0, (h.1, h.2)))
     (and_says _ _ (leb 1 n) _ (leb_says 1 n) (and_says _ _ (leb n 1536) (eqb (n % 12) 0) (leb_says n 1536) (eqb_says (n % 12) 0)))
 
-pub admit_answers : (bytes : List ℕ) (m : ℕ) → Admit_reason bytes m (admit_verdict bytes m).answer (admit_verdict bytes m).row
+pub admit_answers : (bytes : List ℕ) (m : ℕ) → AdmitReason bytes m (admit_verdict bytes m).answer (admit_verdict bytes m).row
 unfolding admit_verdict rows_verdict
 admit_answers bytes m = go (processors_ok m) (processors_says m) (length_ok (length bytes)) (length_says (length bytes))
   where
     rs : List Row
     rs = rows_of bytes
 
-    size : Processors_ok m → Length_ok (length bytes) → Rows_ok (rows_of bytes) → Admit_reason bytes m (size_verdict m (rows_of bytes)).answer (size_verdict m (rows_of bytes)).row
+    size : ProcessorsOk m → LengthOk (length bytes) → RowsOk (rows_of bytes) → AdmitReason bytes m (size_verdict m (rows_of bytes)).answer (size_verdict m (rows_of bytes)).row
     size p q r = unfold size_verdict fits in (by (ltb most_scale (scale_of rs)) (ltb_says most_scale (scale_of rs)) (leb (sum_of (share_of (scale_of rs)) rs) (m * scale_of rs)) (leb_says (sum_of (share_of (scale_of rs)) rs) (m * scale_of rs)))
       where
         by : (a : Bool) → Says (most_scale < scale_of (rows_of bytes)) a → (b : Bool) → Says (sum_of (share_of (scale_of (rows_of bytes))) (rows_of bytes) ≤ m * scale_of (rows_of bytes)) b
-            → Admit_reason bytes m (if a then plain Scale else (if b then plain Done else plain Shares)).answer (if a then plain Scale else (if b then plain Done else plain Shares)).row
+            → AdmitReason bytes m (if a then plain Scale else (if b then plain Done else plain Shares)).answer (if a then plain Scale else (if b then plain Done else plain Shares)).row
         by true u b v = (refl, p, q, r, u)
         by false u true v = (refl, p, q, r, omega arith, v)
         by false u false v = (refl, p, q, r, omega arith, omega arith)
 
-    rows : Processors_ok m → Length_ok (length bytes) → (a : Answer) (i : ℕ) → Fault 0 (rows_of bytes) a i
-        → Admit_reason bytes m (if is_done a then size_verdict m (rows_of bytes) else record { answer = a; row = i }).answer (if is_done a then size_verdict m (rows_of bytes) else record { answer = a; row = i }).row
+    rows : ProcessorsOk m → LengthOk (length bytes) → (a : Answer) (i : ℕ) → Fault 0 (rows_of bytes) a i
+        → AdmitReason bytes m (if is_done a then size_verdict m (rows_of bytes) else record { answer = a; row = i }).answer (if is_done a then size_verdict m (rows_of bytes) else record { answer = a; row = i }).row
     rows p q Done i f = size p q f.1
     rows p q RowRange i f =
         let e : i - 0 - 1 ≡ i - 1 = omega arith in
@@ -217,21 +217,21 @@ admit_answers bytes m = go (processors_ok m) (processors_says m) (length_ok (len
     rows p q NotTogether i f = absurd f
     rows p q TextForm i f = absurd f
 
-    go : (a : Bool) → Says (Processors_ok m) a → (b : Bool) → Says (Length_ok (length bytes)) b
-        → Admit_reason bytes m (if a then (if b then or_else (fault_from 1 (rows_of bytes)) (size_verdict m (rows_of bytes)) else plain TableLength) else plain Processors).answer
+    go : (a : Bool) → Says (ProcessorsOk m) a → (b : Bool) → Says (LengthOk (length bytes)) b
+        → AdmitReason bytes m (if a then (if b then or_else (fault_from 1 (rows_of bytes)) (size_verdict m (rows_of bytes)) else plain TableLength) else plain Processors).answer
         (if a then (if b then or_else (fault_from 1 (rows_of bytes)) (size_verdict m (rows_of bytes)) else plain TableLength) else plain Processors).row
     go false p b q = (refl, p)
     go true p false q = (refl, p, q)
     go true p true q = rows p q (fault_from 1 (rows_of bytes)).answer (fault_from 1 (rows_of bytes)).row (faults_answers 0 (rows_of bytes))
 
 -- THE OTHER WAY ROUND: where the reason holds, the answer is given
-row_ok : (r : Row) → Row_ok r → fault_of r ≡ Done
+row_ok : (r : Row) → RowOk r → fault_of r ≡ Done
 row_ok r h = rw (is_true (row_in_range r) (row_says r) h.0, is_false (ltb (shorter r) r.exec) (ltb_says (shorter r) r.exec) (λ q. omega (arith, h.1)))
 
-row_out : (r : Row) → ¬ Row_in_range r → fault_of r ≡ RowRange
+row_out : (r : Row) → ¬ RowInRange r → fault_of r ≡ RowRange
 row_out r h = rw (is_false (row_in_range r) (row_says r) h)
 
-row_over : (r : Row) → Row_in_range r → shorter r < r.exec → fault_of r ≡ RowExecution
+row_over : (r : Row) → RowInRange r → shorter r < r.exec → fault_of r ≡ RowExecution
 row_over r h q = rw (is_true (row_in_range r) (row_says r) h, is_true (ltb (shorter r) r.exec) (ltb_says (shorter r) r.exec) q)
 
 fault_turn : (n : ℕ) (r : Row) (rs : List Row) (a : Answer) → fault_of r ≡ a → fault_from n (r ∷ rs) ≡ (if is_done a then fault_from (suc n) rs else record { answer = a; row = n })
@@ -246,7 +246,7 @@ fault_turn n r rs a e = by ∙ ap (λ (x : Answer). if is_done x then fault_from
     by = as_if (is_done (fault_of r)) (fault_from (suc n) rs) (record { answer = fault_of r; row = n })
 
 -- the first faulty row is found: the rows before the place k are in order, and the one there has the fault a
-first_fault : (n : ℕ) (rs : List Row) (k : ℕ) (a : Answer) → k < length rs → ((j : ℕ) → j < k → Row_ok (get_or rs j no_row)) → fault_of (get_or rs k no_row) ≡ a → is_done a ≡ false
+first_fault : (n : ℕ) (rs : List Row) (k : ℕ) (a : Answer) → k < length rs → ((j : ℕ) → j < k → RowOk (get_or rs j no_row)) → fault_of (get_or rs k no_row) ≡ a → is_done a ≡ false
     → fault_from n rs ≡ record { answer = a; row = n + k }
 first_fault n [] k a hk ok e d = absurd (omega arith)
 first_fault n (r ∷ rs) zero a hk ok e d = let z : n + 0 ≡ n = omega arith in fault_turn n r rs a e ∙ rw (d, z)
@@ -254,11 +254,11 @@ first_fault n (r ∷ rs) (suc k) a hk ok e d =
     let z : n + suc k ≡ suc n + k = omega arith in
     fault_turn n r rs Done (row_ok r (ok 0 (omega arith))) ∙ rw z (first_fault (suc n) rs k a (omega arith) (λ j h. ok (suc j) (omega arith)) e d)
 
-no_fault : (n : ℕ) (rs : List Row) → Rows_ok rs → fault_from n rs ≡ plain Done
+no_fault : (n : ℕ) (rs : List Row) → RowsOk rs → fault_from n rs ≡ plain Done
 no_fault n [] h = unfold fault_from in refl
 no_fault n (r ∷ rs) h = fault_turn n r rs Done (row_ok r (h 0 (omega arith))) ∙ no_fault (suc n) rs (λ j hj. h (suc j) (omega arith))
 
-pub admit_exact : (bytes : List ℕ) (m : ℕ) (a : Answer) (i : ℕ) → Admit_reason bytes m a i → admit_verdict bytes m ≡ record { answer = a; row = i }
+pub admit_exact : (bytes : List ℕ) (m : ℕ) (a : Answer) (i : ℕ) → AdmitReason bytes m a i → admit_verdict bytes m ≡ record { answer = a; row = i }
 unfolding admit_verdict rows_verdict size_verdict fits
 admit_exact bytes m Processors i h = rw (is_false (processors_ok m) (processors_says m) h.1, h.0)
 admit_exact bytes m TableLength i h =
@@ -308,7 +308,7 @@ admit_exact bytes m RoomTooShort i h = absurd h
 admit_exact bytes m NotTogether i h = absurd h
 admit_exact bytes m TextForm i h = absurd h
 
-pub arrive_exact : (s : State) (task : ℕ) (a : Answer) → Arrive_reason s task a → arrive_answer s task ≡ a
+pub arrive_exact : (s : State) (task : ℕ) (a : Answer) → ArriveReason s task a → arrive_answer s task ≡ a
 unfolding arrive_answer
 arrive_exact s task NotTogether h = rw h
 arrive_exact s task TaskNumber h = rw (h.0, is_false (task_known s task) (known_says s task) h.1)
@@ -331,7 +331,7 @@ arrive_exact s task HorizonNotLater h = absurd h
 arrive_exact s task RoomTooShort h = absurd h
 arrive_exact s task TextForm h = absurd h
 
-pub step_exact : (s : State) (horizon room : ℕ) (a : Answer) → Step_reason s horizon room a → step_answer s horizon room ≡ a
+pub step_exact : (s : State) (horizon room : ℕ) (a : Answer) → StepReason s horizon room a → step_answer s horizon room ≡ a
 unfolding step_answer
 step_exact s h n NotTogether p = rw p
 step_exact s h n RoomTooShort p = rw (p.0, is_true (ltb n 48) (ltb_says n 48) p.1)

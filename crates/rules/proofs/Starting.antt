@@ -11,7 +11,7 @@ use Rattle.ground.specs.Sums.{sum_of, up_from}
 use Rattle.ground.proofs.Sums.{sum_of_map}
 use Rattle.ground.proofs.Times.{up_length}
 use Rattle.rules.specs.Admission.{admit_verdict, admit}
-use Rattle.rules.specs.Reasons.{Length_ok, Rows_ok, Admit_reason}
+use Rattle.rules.specs.Reasons.{LengthOk, RowsOk, AdmitReason}
 use Rattle.rules.specs.Scale.{scale_of, share_of}
 use Rattle.rules.specs.State.{asleep, Task, no_row, at, is_awake, runs, waits, fresh, admitted, Cond}
 use Rattle.rules.specs.Table.{Row, row_at, rows_of}
@@ -27,7 +27,7 @@ use mathlib.Core.Option.{none}
 pub record Passes (m : ℕ) (rs : List Row) : Type 0 where
   pub processors : (1 ≤ m) × (m ≤ 16)
   pub size : (1 ≤ length rs) × (length rs ≤ 128)
-  pub rows : Rows_ok rs
+  pub rows : RowsOk rs
   pub scale_most : scale_of rs ≤ most_scale
   pub sum : sum_of (share_of (scale_of rs)) rs ≤ m * scale_of rs
 
@@ -72,7 +72,7 @@ admitted_together m rs P =
     zero_tick : (l : ℕ) → 0 / l * l ≤ 0
     zero_tick l = native.Mathlib.Nat.div-mul-le_self 0 l
 
-rows_count : (n : ℕ) → Length_ok n → (1 ≤ n / 12) × (n / 12 ≤ 128)
+rows_count : (n : ℕ) → LengthOk n → (1 ≤ n / 12) × (n / 12 ≤ 128)
 rows_count n h =
     let d = native.Mathlib.Nat.div-add-mod' n 12 in
     (omega (arith, h), omega (arith, h))
@@ -80,7 +80,7 @@ rows_count n h =
 pub admit_passes : (bytes : List ℕ) (m : ℕ) → (admit bytes m).answer ≡ Done → Passes m (rows_of bytes)
 unfolding admit rows_of
 admit_passes bytes m d =
-    let R = subst (λ (a : Answer). Admit_reason bytes m a (admit_verdict bytes m).row) d (admit_answers bytes m) in
+    let R = subst (λ (a : Answer). AdmitReason bytes m a (admit_verdict bytes m).row) d (admit_answers bytes m) in
     let n : length (rows_of bytes) ≡ length bytes / 12 = length-map (up_from 0 (length bytes / 12)) (row_at bytes) ∙ up_length 0 (length bytes / 12) in
     let c = rows_count (length bytes) R.2 in
     record { processors = R.1; size = (omega (arith, c.0), omega (arith, c.1)); rows = R.3; scale_most = R.4; sum = R.5 }

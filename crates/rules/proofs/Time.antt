@@ -15,7 +15,7 @@ use Rattle.rules.specs.Keys.{run_key, wait_key, Best, nope, best, least}
 use Rattle.rules.specs.State.{Cond, asleep, resting, running, waiting, Task, nobody, at, be, is_awake, amount, runs, waits, on, awake_share}
 use Rattle.rules.proofs.Cases.{amount_of, proc_of, runs_of, waits_of, on_of_lem, run_key_of, wait_key_of}
 use Rattle.rules.proofs.Events.{Stands}
-use Rattle.rules.proofs.Places.{Is_least, least_is}
+use Rattle.rules.proofs.Places.{IsLeast, least_is}
 use Rattle.rules.proofs.Plane.{Fits, is_waiting, is_running}
 use Rattle.rules.proofs.Slope.{key}
 
@@ -144,12 +144,12 @@ unfolding or_key
 or_le nope n = omega arith
 or_le (best i k) n = omega arith
 
-or_key_lem : (key : Task → Option ℕ) (l : List Task) (b : Best) → Is_least key l b → (n j k : ℕ) → key (at j l) ≡ some k → or_key b n ≤ k
+or_key_lem : (key : Task → Option ℕ) (l : List Task) (b : Best) → IsLeast key l b → (n j k : ℕ) → key (at j l) ≡ some k → or_key b n ≤ k
 unfolding or_key
 or_key_lem key l nope h n j k e = apart_options (key (at j l)) k (n ≤ k) (h j) e
 or_key_lem key l (best i k') h n j k e = omega (arith, h.2 j k e)
 
-or_above : (key : Task → Option ℕ) (l : List Task) (b : Best) → Is_least key l b → (n x : ℕ) → x < n → ((j k : ℕ) → key (at j l) ≡ some k → x < k) → x < or_key b n
+or_above : (key : Task → Option ℕ) (l : List Task) (b : Best) → IsLeast key l b → (n x : ℕ) → x < n → ((j k : ℕ) → key (at j l) ≡ some k → x < k) → x < or_key b n
 unfolding or_key
 or_above key l nope h n x a g = a
 or_above key l (best i k) h n x a g = omega (arith, g i k h.1)

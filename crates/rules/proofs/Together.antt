@@ -9,7 +9,7 @@ use Rattle.ground.specs.Sums.{sum_of}
 use Rattle.rules.specs.Bounds.{clock, most_processors, most_scale, most_tasks}
 use Rattle.rules.specs.Scale.{scale_of, share_of}
 use Rattle.rules.specs.State.{Task, State, at, period, short, is_awake, amount, proc, runs, waits, on, awake_share, due}
-use Rattle.rules.specs.Reasons.{In_range}
+use Rattle.rules.specs.Reasons.{InRange}
 
 abbrev pub Awake : Task → Type 0
 Awake t = is_awake t.cond ≡ true
@@ -18,7 +18,7 @@ Awake t = is_awake t.cond ≡ true
 pub record Table (m scale : ℕ) (l : List Task) : Type 0 where
   pub processors : (1 ≤ m) × (m ≤ most_processors)
   pub size : (1 ≤ length l) × (length l ≤ most_tasks)
-  pub ranges : (j : ℕ) → j < length l → In_range (at j l).row.period × In_range (at j l).row.exec × In_range (at j l).row.deadline
+  pub ranges : (j : ℕ) → j < length l → InRange (at j l).row.period × InRange (at j l).row.exec × InRange (at j l).row.deadline
   pub exec : (j : ℕ) → j < length l → (at j l).row.exec ≤ short (at j l)
   pub scale_is : scale ≡ scale_of (map (λ (t : Task). t.row) l)
   pub scale_most : scale ≤ most_scale

@@ -10,7 +10,7 @@ use Rattle.rules.specs.Admission.{admit}
 use Rattle.rules.specs.State.{Task, State, no_row, at, is_awake, amount, tick_of}
 use Rattle.rules.specs.Calls.{arrive, step}
 use Rattle.rules.specs.Run.{Call, arrive_call, Run, run_of}
-use Rattle.rules.specs.History.{ran, Once, Within, Working, Follows, Ends_at, came_by, plane_end}
+use Rattle.rules.specs.History.{ran, Once, Within, Working, Follows, EndsAt, came_by, plane_end}
 
 -- the k-th plane end is at this tick, and the clock has reached it
 abbrev pub Reached : List Row → Run → ℕ → ℕ → Type 0
@@ -34,7 +34,7 @@ module _ (rows : List Row) (h : Run) (n a : ℕ) where
     -- exactly e times the ticks elapsed, divided by q"
     pub exact : (k t : ℕ) → Reached rows h k t → a ≤ t → t ≤ a + q → ran n (a * L) (t * L) h.records * q ≡ e * L * (t - a)
     -- "So when the clock reaches q after its arrival it has run exactly e ticks"; a record ends there
-    pub whole : (a + q) * L ≤ h.state.now → (ran n (a * L) ((a + q) * L) h.records ≡ e * L) × Ends_at ((a + q) * L) h.records
+    pub whole : (a + q) * L ≤ h.state.now → (ran n (a * L) ((a + q) * L) h.records ≡ e * L) × EndsAt ((a + q) * L) h.records
 
 -- what the next call is answered, said of the table and of the arrivals taken; `arrives` and `steps` give an arrival's answer,
 -- and a step's with the instant that it reaches
@@ -47,8 +47,8 @@ pub record Next (rows : List Row) (h : Run) (arrives : ℕ → Answer) (steps : 
       → ((steps horizon room).0 ≡ Done) × (h.state.now < (steps horizon room).1) × ((steps horizon room).1 ≤ horizon * scale_of rows)
 
 -- of the rules' arrive and step
-abbrev pub Next_of : List Row → Run → Type 0
-Next_of rows h = Next rows h (λ task. (arrive h.state task).answer) (λ horizon room. let x = step h.state horizon room in (x.answer, x.state.now))
+abbrev pub NextOf : List Row → Run → Type 0
+NextOf rows h = Next rows h (λ task. (arrive h.state task).answer) (λ horizon room. let x = step h.state horizon room in (x.answer, x.state.now))
 
 -- what is true of any calls
 pub record Course (rows : List Row) (m : ℕ) (h : Run) : Type 0 where
@@ -60,7 +60,7 @@ pub record Course (rows : List Row) (m : ℕ) (h : Run) : Type 0 where
   -- who runs has a job
   pub working : Working (scale_of rows) rows h.arrivals h.records
   -- a record ends at every plane end that the clock reaches
-  pub seams : (k t : ℕ) → Reached rows h (suc k) t → Ends_at (t * scale_of rows) h.records
+  pub seams : (k t : ℕ) → Reached rows h (suc k) t → EndsAt (t * scale_of rows) h.records
 
 -- "Start from any admitted table and make any calls, refused ones among them": then an arrival that is taken, then any calls
 pub record Demand3 : Type 0 where
@@ -68,7 +68,7 @@ pub record Demand3 : Type 0 where
       → Job (rows_of bytes) (run_of bytes m (before ++ arrive_call task ∷ later)) task (tick_of (run_of bytes m before).state)
   pub courses : (bytes : List ℕ) (m : ℕ) → (admit bytes m).answer ≡ Done → (calls : List Call) → Course (rows_of bytes) m (run_of bytes m calls)
   -- what the next call is answered
-  pub nexts : (bytes : List ℕ) (m : ℕ) → (admit bytes m).answer ≡ Done → (calls : List Call) → Next_of (rows_of bytes) (run_of bytes m calls)
+  pub nexts : (bytes : List ℕ) (m : ℕ) → (admit bytes m).answer ≡ Done → (calls : List Call) → NextOf (rows_of bytes) (run_of bytes m calls)
 
 -- NOTHING ELSE MOVES
 -- of a task: its row, share and last arrival, whether it is awake, and what it has left
@@ -80,5 +80,5 @@ pub record Untouched (t u : Task) : Type 0 where
   pub left : amount u ≡ amount t
 
 -- an arrival that is taken leaves every other task as it was, but for who has a processor
-abbrev pub Others_stay : Type 0
-Others_stay = (s : State) (task : ℕ) → (arrive s task).answer ≡ Done → (j : ℕ) → suc j ≢ task → Untouched (at j s.tasks) (at j (arrive s task).state.tasks)
+abbrev pub OthersStay : Type 0
+OthersStay = (s : State) (task : ℕ) → (arrive s task).answer ≡ Done → (j : ℕ) → suc j ≢ task → Untouched (at j s.tasks) (at j (arrive s task).state.tasks)

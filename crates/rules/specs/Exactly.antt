@@ -7,13 +7,13 @@ use Rattle.rules.specs.Scale.{scale_of, share_of}
 use Rattle.rules.specs.Admission.{admit}
 use Rattle.rules.specs.State.{State, no_row}
 use Rattle.rules.specs.Calls.{arrive, step}
-use Rattle.rules.specs.Reasons.{Rows_ok, Admit_reason, Arrive_reason, Step_reason}
+use Rattle.rules.specs.Reasons.{RowsOk, AdmitReason, ArriveReason, StepReason}
 
 -- "Given exactly when": a call gives an answer (and admission a row) exactly when its reason is the case
-pub record Exactly_when : Type 0 where
-  pub admits : (bytes : List ℕ) (m : ℕ) (a : Answer) (i : ℕ) → (((admit bytes m).answer ≡ a) × ((admit bytes m).row ≡ i)) ↔ Admit_reason bytes m a i
-  pub arrives : (s : State) (task : ℕ) (a : Answer) → ((arrive s task).answer ≡ a) ↔ Arrive_reason s task a
-  pub steps : (s : State) (horizon : ℕ) (room : List ℕ) (a : Answer) → ((step s horizon room).answer ≡ a) ↔ Step_reason s horizon (length room) a
+pub record ExactlyWhen : Type 0 where
+  pub admits : (bytes : List ℕ) (m : ℕ) (a : Answer) (i : ℕ) → (((admit bytes m).answer ≡ a) × ((admit bytes m).row ≡ i)) ↔ AdmitReason bytes m a i
+  pub arrives : (s : State) (task : ℕ) (a : Answer) → ((arrive s task).answer ≡ a) ↔ ArriveReason s task a
+  pub steps : (s : State) (horizon : ℕ) (room : List ℕ) (a : Answer) → ((step s horizon room).answer ≡ a) ↔ StepReason s horizon (length room) a
 
 -- the q of the row in place i, counted from 0
 abbrev pub short_at : List Row → ℕ → ℕ
@@ -37,5 +37,5 @@ pub record WholeShare (rows : List Row) (r : Row) : Type 0 where
 
 -- of the rows of any table that passes 3 and 4
 pub record Measures : Type 0 where
-  pub scale : (rows : List Row) → Rows_ok rows → LeastMultiple rows
-  pub shares : (rows : List Row) → Rows_ok rows → (i : ℕ) → i < length rows → WholeShare rows (get_or rows i no_row)
+  pub scale : (rows : List Row) → RowsOk rows → LeastMultiple rows
+  pub shares : (rows : List Row) → RowsOk rows → (i : ℕ) → i < length rows → WholeShare rows (get_or rows i no_row)

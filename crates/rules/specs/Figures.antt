@@ -3,7 +3,7 @@ use Rattle.std.specs.Prelude.{◌≡◌, true, [], ◌∷◌, ℕ, ◌+◌, ◌*
 use Rattle.std.proofs.Math.Option.{some}
 use Rattle.rules.specs.Answers.{number_of}
 use Rattle.rules.specs.State.{State, at, period}
-use Rattle.rules.specs.Reasons.{In_range, Processors_ok}
+use Rattle.rules.specs.Reasons.{InRange, ProcessorsOk}
 use Rattle.rules.specs.Holds.{holds}
 use Rattle.rules.specs.Calls.{arrive_answer}
 use Rattle.rules.specs.Handed.{Handed}
@@ -24,13 +24,13 @@ pub record Figures : Type 0 where
   pub answered : Answered
   pub histories : Histories
   -- P5 and P6, for every m, and every p and D whose shorter is the q
-  pub p5 : (m p d p' d' : ℕ) → Processors_ok m → In_range p → In_range d → In_range p' → In_range d' → min p d ≡ 1048576 → min p' d' ≡ 127
+  pub p5 : (m p d p' d' : ℕ) → ProcessorsOk m → InRange p → InRange d → InRange p' → InRange d' → min p d ≡ 1048576 → min p' d' ≡ 127
       → (admits (row p 1 d ∷ row p' 1 d' ∷ []) m ≡ (0, 0)) × (scale_in (row p 1 d ∷ row p' 1 d' ∷ []) m ≡ 133169152)
-  pub p6 : (m p d p' d' : ℕ) → Processors_ok m → In_range p → In_range d → In_range p' → In_range d' → min p d ≡ 1048576 → min p' d' ≡ 129
+  pub p6 : (m p d p' d' : ℕ) → ProcessorsOk m → InRange p → InRange d → InRange p' → InRange d' → min p d ≡ 1048576 → min p' d' ≡ 129
       → admits (row p 1 d ∷ row p' 1 d' ∷ []) m ≡ (5, 0)
   -- P7 and P8, for every p and D; P8 for every m
-  pub p7 : (p d : ℕ) → In_range p → In_range d → admits (row p (min p d) d ∷ []) 1 ≡ (0, 0)
-  pub p8 : (m p d : ℕ) → Processors_ok m → In_range p → In_range d → min p d < 1048576 → admits (row p (min p d + 1) d ∷ []) m ≡ (4, 1)
+  pub p7 : (p d : ℕ) → InRange p → InRange d → admits (row p (min p d) d ∷ []) 1 ≡ (0, 0)
+  pub p8 : (m p d : ℕ) → ProcessorsOk m → InRange p → InRange d → min p d < 1048576 → admits (row p (min p d + 1) d ∷ []) m ≡ (4, 1)
   -- P9 and P10, in every state
   pub p9 : (s : State) (task : ℕ) → ArrivedAgo s task (period (at (task - 1) s.tasks)) → number_of (arrive_answer s task) ≡ 0
   pub p10 : (s : State) (task : ℕ) → ArrivedAgo s task (period (at (task - 1) s.tasks) - 1) → number_of (arrive_answer s task) ≡ 9

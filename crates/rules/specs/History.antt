@@ -28,9 +28,9 @@ Follows from [] now = from ≡ now
 Follows from (r ∷ rs) now = (r.from ≡ from) × (r.from < r.to) × Follows r.to rs now
 
 -- a record ends at this instant
-abbrev pub Ends_at : ℕ → List Record → Type 0
-Ends_at to [] = ⊥
-Ends_at to (r ∷ rs) = (r.to ≡ to) ⊎ Ends_at to rs
+abbrev pub EndsAt : ℕ → List Record → Type 0
+EndsAt to [] = ⊥
+EndsAt to (r ∷ rs) = (r.to ≡ to) ⊎ EndsAt to rs
 
 -- "Slots past m are 0": no more than m processors run
 abbrev pub Within : ℕ → List Record → Type 0

@@ -19,7 +19,7 @@ pub const MOST_BYTES: usize = MOST_TASKS * ROW_SIZE;
 
 pub const RECORD_SIZE: usize = 48;
 
-#[derive(Drop)]
+#[derive(Clone, Copy)]
 pub enum Answer {
     Done,
     Processors,

@@ -35,12 +35,12 @@ use Rattle.state.proofs.Passing.{slot_is}
 use Rattle.state.proofs.Seats.{seat_found, seat_none}
 use Rattle.state.proofs.Seizing.{seize_is}
 use Rattle.state.proofs.Shows.{Crew, Is, in_list, run_cond}
-use Rattle.state.proofs.Step.{In_plane}
-use Rattle.state.proofs.Views.{crew, Is_state, sound_is, seen_as, view_is, put_is}
+use Rattle.state.proofs.Step.{InPlane}
+use Rattle.state.proofs.Views.{crew, IsState, sound_is, seen_as, view_is, put_is}
 
 -- A TASK IN NO QUEUE WAKES
-woken_is : (s : State) (l : List Task) → Is_state s l → Sized s → (i tick : ℕ) → i < s.table.count → key_in s.running (suc i) ≡ none → key_in s.waiting (suc i) ≡ none
-    → Is_state (woken s i tick) (wake i tick resting l)
+woken_is : (s : State) (l : List Task) → IsState s l → Sized s → (i tick : ℕ) → i < s.table.count → key_in s.running (suc i) ≡ none → key_in s.waiting (suc i) ≡ none
+    → IsState (woken s i tick) (wake i tick resting l)
 unfolding wake cond_in
 woken_is s l I A i tick hi out_r out_w =
     record {
@@ -179,7 +179,7 @@ pub record CanArrive (s : State) (i : ℕ) : Type 0 where
   pub sleeps : (at i (view s).tasks).cond ≡ asleep
   pub procs : 0 < s.table.m
   pub share : (0 < get_or s.table.share i 0) × (get_or s.table.share i 0 ≤ s.table.scale)
-  pub plane : (e : ℕ) → (view s).plane ≡ some e → In_plane (view s) e
+  pub plane : (e : ℕ) → (view s).plane ≡ some e → InPlane (view s) e
 
 module _ (s : State) (i : ℕ) (A : Sized s) (S : Sound s) (C : CanArrive s i) where
   abbrev l : List Task
@@ -191,13 +191,13 @@ module _ (s : State) (i : ℕ) (A : Sized s) (S : Sound s) (C : CanArrive s i) w
   abbrev k : State
   k = woken s i tick
 
-  I : Is_state s l
+  I : IsState s l
   I = sound_is s S
 
   out : (key_in s.running (suc i) ≡ none) × (key_in s.waiting (suc i) ≡ none)
   out = in_no_queue I i C.row (let z : runs (at i l) ≡ 0 = ap runs_of C.sleeps in let y : waits (at i l) ≡ 0 = ap waits_of C.sleeps in omega arith)
 
-  W : Is_state k (wake i tick resting l)
+  W : IsState k (wake i tick resting l)
   W = woken_is s l I A i tick C.row out.0 out.1
 
   share_is : (at i l).share ≡ get_or s.table.share i 0
@@ -205,7 +205,7 @@ module _ (s : State) (i : ℕ) (A : Sized s) (S : Sound s) (C : CanArrive s i) w
 
   -- in an open plane
   module _ (on : s.going ≡ true) where
-    P : In_plane (view s) s.end
+    P : InPlane (view s) s.end
     P = C.plane s.end (ap (λ (b : Bool). if b then some s.end else none) on)
 
     later : tick < s.end

@@ -28,7 +28,7 @@ use Rattle.state.specs.Work.{Work, seat}
 use Rattle.state.proofs.Passing.{awake_at}
 use Rattle.ground.proofs.Ranges.{all_one}
 use Rattle.state.proofs.Shows.{seen, cond_at, clash}
-use Rattle.state.proofs.Views.{crew, Is_state}
+use Rattle.state.proofs.Views.{crew, IsState}
 use Rattle.state.proofs.Lasts.{Known, last_kept}
 
 -- NOBODY RUNS OR WAITS
@@ -121,7 +121,7 @@ close_cond d now end p x true ends true t e f = rw (still_awake d x, e, f refl)
 close_cond d now end p x true ends false t e f = rw (still_awake d x, e, f refl)
 close_cond d now end p x false ends late t e f = let z = not_awake x e in rw z
 
-pub close_is : (s : State) (l : List Task) → Is_state s l → Known l → (to : ℕ) → Is_state (closed_of s to) (closed s.end (advance (to - s.now.0) l))
+pub close_is : (s : State) (l : List Task) → IsState s l → Known l → (to : ℕ) → IsState (closed_of s to) (closed s.end (advance (to - s.now.0) l))
 unfolding closed_of closed cond_in
 close_is s l I K to =
     record {

@@ -185,11 +185,11 @@ quiet {c} {w} {l} I A =
 
 module _ (c : Crew) (m scale R end : ℕ) where
   -- from task i on, k of them: the rules by number, the turns by the running queue's top
-  abbrev From_place : ℕ → ℕ → Type 0
-  From_place k i = (fuel : ℕ) (w : Work) (l : List Task) → size w ≤ fuel → w.end ≡ end → Is c w l → Fits 0 m scale R l → Left i l
+  abbrev FromPlace : ℕ → ℕ → Type 0
+  FromPlace k i = (fuel : ℕ) (w : Work) (l : List Task) → size w ≤ fuel → w.end ≡ end → Is c w l → Fits 0 m scale R l → Left i l
       → Is c (b_turns fuel w) (foldl (b_event end) l (up_from i k))
 
-  b_from : (k i : ℕ) → i + k ≡ c.count → From_place k i
+  b_from : (k i : ℕ) → i + k ≡ c.count → FromPlace k i
   unfolding up_from b_event
   b_from zero i e fuel w l hf he I F A = rw (turns_end fuel w (quiet I (λ j hj. A j (omega arith)))) I
   b_from (suc k) i e fuel w l hf he I F A = go (due? w.now (key_in w.running (suc i))) (b_from k (suc i) (omega arith))
@@ -213,7 +213,7 @@ module _ (c : Crew) (m scale R end : ℕ) where
           idle : b_case end l i (cond_in c.awake w i) ≡ l
           idle = unfold cond_in in (rw (← he) (b_idle w.now w.end i l (key_in w.running (suc i)) (key_in w.waiting (suc i)) (seat (suc i) w.slots) (get_or c.awake i false) h))
 
-      go : Due w.now (key_in w.running (suc i)) → From_place k (suc i) → Is c (b_turns fuel w) (foldl (b_event end) (b_case end l i (at i l).cond) (up_from (suc i) k))
+      go : Due w.now (key_in w.running (suc i)) → FromPlace k (suc i) → Is c (b_turns fuel w) (foldl (b_event end) (b_case end l i (at i l).cond) (up_from (suc i) k))
       go (comes j q h) ih =
           let t = b_turn I i j hi q h A in
           let o = turns_on fuel w hf t.0 in

@@ -15,7 +15,7 @@ use Rattle.state.specs.declared.Jobs.{Jobs}
 use Rattle.state.specs.declared.State.{State}
 use Rattle.state.specs.Machine.{shorter_at}
 use Rattle.state.specs.View.{last_at, job_at}
-use Rattle.state.proofs.Views.{Is_state}
+use Rattle.state.proofs.Views.{IsState}
 
 -- "an awake task has one"
 abbrev pub Known : List Task → Type 0
@@ -33,7 +33,7 @@ soon_shown tick t j i = go (get_or j.arrived i false)
     go true = refl
     go false = refl
 
-module _ (s : State) (l : List Task) (I : Is_state s l) (i : ℕ) (hi : i < s.table.count) where
+module _ (s : State) (l : List Task) (I : IsState s l) (i : ℕ) (hi : i < s.table.count) where
   pub last_at_lem : (at i l).last ≡ last_at s.jobs i
   last_at_lem = ap (λ (t : Task). t.last) (I.shows.each i hi)
 

@@ -77,8 +77,8 @@ abbrev pub Fresh : ℕ → List Bool → List Bool → ℕ → Type 0
 Fresh n ok marks x = (t : ℕ) → x ≡ suc t → (t < n) × ((get_or ok t false ≡ true) × (get_or marks t false ≡ false))
 
 -- every task of the list does, and no two places have the same task
-abbrev pub All_fresh : ℕ → List Bool → List ℕ → List Bool → Type 0
-All_fresh n ok l marks = ((j : ℕ) → Fresh n ok marks (get_or l j 0)) × ((i j t : ℕ) → get_or l i 0 ≡ suc t → get_or l j 0 ≡ suc t → i ≡ j)
+abbrev pub AllFresh : ℕ → List Bool → List ℕ → List Bool → Type 0
+AllFresh n ok l marks = ((j : ℕ) → Fresh n ok marks (get_or l j 0)) × ((i j t : ℕ) → get_or l i 0 ≡ suc t → get_or l j 0 ≡ suc t → i ≡ j)
 
 fresh_says : (n : ℕ) (ok marks : List Bool) (x : ℕ) → Says (Fresh n ok marks x) (fresh n ok marks x)
 fresh_says n ok marks zero = λ t e. absurd (omega arith)
@@ -91,7 +91,7 @@ fresh_says n ok marks (suc u) =
     to : (u < n) × ((get_or ok u false ≡ true) × (get_or marks u false ≡ false)) → Fresh n ok marks (suc u)
     to h t e = let z : u ≡ t = omega arith in rw z at h
 
-pub all_fresh_says : (n : ℕ) (ok : List Bool) (l : List ℕ) (marks : List Bool) → n ≤ length marks → Says (All_fresh n ok l marks) (all_fresh n ok l marks)
+pub all_fresh_says : (n : ℕ) (ok : List Bool) (l : List ℕ) (marks : List Bool) → n ≤ length marks → Says (AllFresh n ok l marks) (all_fresh n ok l marks)
 unfolding all_fresh
 all_fresh_says n ok [] marks h = ((λ j t e. absurd (omega arith)), λ i j t e. absurd (omega arith))
 all_fresh_says n ok (x ∷ l) marks h =
@@ -102,7 +102,7 @@ all_fresh_says n ok (x ∷ l) marks h =
     another : Fresh n ok marks x → (t : ℕ) → get_or (mark marks x) t false ≡ false → x ≢ suc t
     another f t e z = false≢true (sym e ∙ (rw z (mark_this marks t (omega (arith, (f t z).0)))))
 
-    to : Fresh n ok marks x × All_fresh n ok l (mark marks x) → All_fresh n ok (x ∷ l) marks
+    to : Fresh n ok marks x × AllFresh n ok l (mark marks x) → AllFresh n ok (x ∷ l) marks
     to r = (each, apart)
       where
         each : (j : ℕ) → Fresh n ok marks (get_or (x ∷ l) j 0)
@@ -115,7 +115,7 @@ all_fresh_says n ok (x ∷ l) marks h =
         apart (suc i) zero t a b = absurd (another r.0 t (r.1.0 i t a).1.1 b)
         apart (suc i) (suc j) t a b = ap suc (r.1.1 i j t a b)
 
-    from : All_fresh n ok (x ∷ l) marks → Fresh n ok marks x × All_fresh n ok l (mark marks x)
+    from : AllFresh n ok (x ∷ l) marks → Fresh n ok marks x × AllFresh n ok l (mark marks x)
     from r = (r.0 0, (each, λ i j t a b. let z = r.1 (suc i) (suc j) t a b in omega arith))
       where
         each : (j : ℕ) → Fresh n ok (mark marks x) (get_or l j 0)

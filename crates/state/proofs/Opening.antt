@@ -37,10 +37,10 @@ use Rattle.state.proofs.Passing.{awake_at}
 use Rattle.ground.proofs.Ranges.{all_one}
 use Rattle.state.proofs.Shows.{Crew, Is, run_key_at, wait_key_at}
 use Rattle.state.proofs.Lasts.{Known, last_kept}
-use Rattle.state.proofs.Views.{crew, Is_state, sound_is, put_is}
+use Rattle.state.proofs.Views.{crew, IsState, sound_is, put_is}
 
 -- THE END
-pub limit_same : (s : State) (l : List Task) → Is_state s l → Known l → (tick i : ℕ) → i < s.table.count → limit tick (at i l) ≡ limit_at s.table s.jobs tick i
+pub limit_same : (s : State) (l : List Task) → IsState s l → Known l → (tick i : ℕ) → i < s.table.count → limit tick (at i l) ≡ limit_at s.table s.jobs tick i
 limit_same s l I K tick i hi =
     let e_q : short (at i l) ≡ shorter_at s.table i = ap short (I.shows.each i hi) in
     rw (awake_at I i hi, e_q) (go (get_or s.jobs.awake i false) refl)
@@ -60,7 +60,7 @@ least_from t j tick e i u (v ∷ l) h =
     let ih = least_from t j tick (min e (limit_at t j tick i)) (suc i) v l (λ x hx. h (suc x) (omega arith) ∙ (let y : i + suc x ≡ suc i + x = omega arith in ap (limit_at t j tick) y)) in
     ih ∙ omega (arith, here)
 
-pub end_same : (s : State) (l : List Task) → Is_state s l → Known l → (tick : ℕ) → 0 < s.table.count → end_of tick l ≡ plane_end s.table s.jobs tick
+pub end_same : (s : State) (l : List Task) → IsState s l → Known l → (tick : ℕ) → 0 < s.table.count → end_of tick l ≡ plane_end s.table s.jobs tick
 unfolding plane_end
 end_same s l I K tick n = go l I.shows.size (λ x hx. limit_same s l I K tick x (omega (arith, I.shows.size)))
   where
@@ -194,7 +194,7 @@ idle_cond now now' end end' p p' true = refl
 idle_cond now now' end end' p p' false = refl
 
 -- a plane with nobody in it yet shows what was shown before it, if nobody ran or waited
-pub begun_is : (s : State) (l : List Task) → Is_state s l → ((i : ℕ) → runs (at i l) + waits (at i l) ≡ 0) → (e : ℕ) → Is_state (begun s e) l
+pub begun_is : (s : State) (l : List Task) → IsState s l → ((i : ℕ) → runs (at i l) + waits (at i l) ≡ 0) → (e : ℕ) → IsState (begun s e) l
 unfolding cond_in
 begun_is s l I idle e =
     record {
@@ -214,9 +214,9 @@ pub shares_len : (s : State) → Sound s → length (shares_of (view s).tasks) �
 shares_len s S = length-map (view s).tasks (λ (t : Task). t.share) ∙ (sound_is s S).shows.size
 
 -- the awake tasks enter in the table's order, which is that of the rules
-pub open_is : (s : State) (l : List Task) → Is_state s l → take s.table.count s.table.order ≡ falling (shares_of l) → ((i : ℕ) → runs (at i l) + waits (at i l) ≡ 0) → (tick e : ℕ)
+pub open_is : (s : State) (l : List Task) → IsState s l → take s.table.count s.table.order ≡ falling (shares_of l) → ((i : ℕ) → runs (at i l) + waits (at i l) ≡ 0) → (tick e : ℕ)
     → ((i : ℕ) → i < s.table.count → (0 < get_or s.table.share i 0 * (e - tick)) × (get_or s.table.share i 0 * (e - tick) ≤ e * s.table.scale))
-    → Is_state (opens_to s tick e) (open_tasks s.table.m (e - tick) l)
+    → IsState (opens_to s tick e) (open_tasks s.table.m (e - tick) l)
 unfolding opens_to open_tasks enter_all
 open_is s l I order idle tick e amounts =
     let w = work_of (begun s e) in

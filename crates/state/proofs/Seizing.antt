@@ -15,8 +15,8 @@ use Rattle.rules.specs.Events.{seize, b_events, c_events_in, c_events, events}
 use Rattle.rules.specs.Keys.{run_key, wait_key, Best, nope, best, least}
 use Rattle.rules.specs.State.{resting, running, waiting, Task, at, become, amount, proc, runs}
 use Rattle.rules.proofs.Cases.{amount_of, proc_of, runs_of, take_from}
-use Rattle.rules.proofs.Events.{After_b, b_all_lem}
-use Rattle.rules.proofs.Places.{at_same, at_other, inside, Is_least, least_is}
+use Rattle.rules.proofs.Events.{AfterB, b_all_lem}
+use Rattle.rules.proofs.Places.{at_same, at_other, inside, IsLeast, least_is}
 use Rattle.rules.proofs.Plane.{Fits, not_running, Alive, crowded, seize_ok}
 use Rattle.queue.specs.Queues.{pop_of, top_key, key_in}
 use Rattle.queue.proofs.Keys.{pop_removes}
@@ -157,7 +157,7 @@ rule_goes n end now l i k e h =
 pub b_alive : {m scale R : ℕ} (w : Work) (l : List Task) → Fits 0 m scale R l → Alive (b_events w.end l)
 b_alive {m} {scale} {R} w l F = λ j. go j (b_all_lem m scale R w.end l F) (dec_lt 0 (runs (at j (b_events w.end l))))
   where
-    go : (j : ℕ) → After_b m scale R l (length l) (b_events w.end l) → Dec (0 < runs (at j (b_events w.end l))) → runs (at j (b_events w.end l)) ≤ amount (at j (b_events w.end l))
+    go : (j : ℕ) → AfterB m scale R l (length l) (b_events w.end l) → Dec (0 < runs (at j (b_events w.end l))) → runs (at j (b_events w.end l)) ≤ amount (at j (b_events w.end l))
     go j b (yes h) = b.1 j (omega (arith, inside runs (b_events w.end l) j refl h, b.2.size))
     go j b (no h) = omega arith
 
@@ -170,7 +170,7 @@ module _ (c : Crew) (m scale R : ℕ) (h_r : 0 < R) (hs : 0 < scale) where
       go : Dec (0 < w.running.len) → 0 < w.running.len
       go (yes n) = n
       go (no n) =
-          let L : Is_least (run_key w.now) l nope = rw (least_no_run I (omega arith)) at (least_is (run_key w.now) refl l) in
+          let L : IsLeast (run_key w.now) l nope = rw (least_no_run I (omega arith)) at (least_is (run_key w.now) refl l) in
           absurd (crowded h_r hs i l hi e F h (λ j. let y : runs (at j l) ≡ 0 = not_running w.now (at j l).cond (L j) in rw y (omega arith)))
 
   -- the top of the waiting is due: somebody runs who can be displaced, and the plane still fits

@@ -19,7 +19,7 @@ use Rattle.rules.specs.Events.{or_key, next_at}
 use Rattle.rules.specs.Keys.{run_key, wait_key, Best, nope, best, better, least}
 use Rattle.rules.specs.State.{Cond, running, waiting, Task, nobody, at, be, become}
 use Rattle.rules.proofs.Cases.{run_key_of, wait_key_of}
-use Rattle.rules.proofs.Places.{at_same, at_other, length_become, Is_least, least_is}
+use Rattle.rules.proofs.Places.{at_same, at_other, length_become, IsLeast, least_is}
 use Rattle.queue.specs.Queues.{top_key, top_task, key_in, Good}
 use Rattle.queue.proofs.Keys.{none_empty, top_key_lem, top_least, Added, Removed}
 use Rattle.state.specs.View.{cond_of, cond_in, Tidy}
@@ -76,7 +76,7 @@ module _ (key : Task → Option ℕ) (key_nobody : key nobody ≡ none) where
   least_only [] i k h e f = absurd (not-suc-le-zero h)
   least_only (t ∷ l) zero k h e f = rw e (go (least key l) (least_is key key_nobody l))
     where
-      go : (b : Best) → Is_least key l b → better (some k) b ≡ best 0 k
+      go : (b : Best) → IsLeast key l b → better (some k) b ≡ best 0 k
       go nope q = refl
       go (best j k') q = rw (le-leb k k' (f (suc j) k' (omega (arith, q.0)) q.1).0)
   least_only (t ∷ l) (suc i) k h e f =

@@ -30,7 +30,7 @@ use Rattle.queue.proofs.Standing.{stands_says}
 use Rattle.state.specs.Machine.{end_at}
 use Rattle.state.specs.Sound.{no_marks, all_fresh, all_marked, members, queue_ok, run_ok, runs_ok, waits_ok, slots_ok, members_ok, sound_by, sound_of}
 use Rattle.state.specs.View.{Sound, Sized}
-use Rattle.state.proofs.Marks.{is_says, length_marked, marked_in, marked_from, Fresh, All_fresh, all_fresh_says}
+use Rattle.state.proofs.Marks.{is_says, length_marked, marked_in, marked_from, Fresh, AllFresh, all_fresh_says}
 use Rattle.ground.proofs.Ranges.{all_one}
 use Rattle.state.proofs.Shows.{clash, run_awake, wait_awake}
 
@@ -100,10 +100,10 @@ module _ (q : Queue) (hk : length q.keys ≡ 128) (ht : length q.tasks ≡ 128) 
       once_apart (held q) g.once i j (omega (arith, x.0, length_held q g)) (omega (arith, y.0, length_held q g)) (member_is i x.0 ∙ x.1 ∙ sym y.1 ∙ sym (member_is j y.0))
 
 -- WHAT THE TEST SAYS, part by part
-abbrev Queue_ok : Queue → Type 0
-Queue_ok q = (q.len ≤ 128) × Heap blank earlier (entries q) q.len
+abbrev QueueOk : Queue → Type 0
+QueueOk q = (q.len ≤ 128) × Heap blank earlier (entries q) q.len
 
-queue_says : (q : Queue) → Says (Queue_ok q) (queue_ok q)
+queue_says : (q : Queue) → Says (QueueOk q) (queue_ok q)
 unfolding queue_ok
 queue_says q = and_says _ _ (leb q.len 128) _ (leb_says q.len 128) (stands_says q)
 
@@ -113,17 +113,17 @@ run_marks s = all_marked (members s.running) no_marks
 abbrev seat_marks : State → List Bool
 seat_marks s = all_marked s.slots no_marks
 
-abbrev Run_ok : State → ℕ → Type 0
-Run_ok s j = (0 < get_or s.running.tasks j 0) × ((s.now.0 ≤ get_or s.running.keys j 0) × (get_or (seat_marks s) (get_or s.running.tasks j 0 - 1) false ≡ true))
+abbrev RunOk : State → ℕ → Type 0
+RunOk s j = (0 < get_or s.running.tasks j 0) × ((s.now.0 ≤ get_or s.running.keys j 0) × (get_or (seat_marks s) (get_or s.running.tasks j 0 - 1) false ≡ true))
 
-abbrev Wait_ok : State → ℕ → Type 0
-Wait_ok s j = (0 < get_or s.waiting.tasks j 0) × (get_or s.waiting.keys j 0 < end_at s)
+abbrev WaitOk : State → ℕ → Type 0
+WaitOk s j = (0 < get_or s.waiting.tasks j 0) × (get_or s.waiting.keys j 0 < end_at s)
 
-abbrev Slot_ok : State → ℕ → Type 0
-Slot_ok s p = (p < s.table.m) ⊎ (get_or s.slots p 0 ≡ 0)
+abbrev SlotOk : State → ℕ → Type 0
+SlotOk s p = (p < s.table.m) ⊎ (get_or s.slots p 0 ≡ 0)
 
-abbrev Entries_ok : State → Type 0
-Entries_ok s = ((j : ℕ) → j < s.running.len → Run_ok s j) × (((j : ℕ) → j < s.waiting.len → Wait_ok s j) × ((p : ℕ) → p < 16 → Slot_ok s p))
+abbrev EntriesOk : State → Type 0
+EntriesOk s = ((j : ℕ) → j < s.running.len → RunOk s j) × (((j : ℕ) → j < s.waiting.len → WaitOk s j) × ((p : ℕ) → p < 16 → SlotOk s p))
 
 -- every entry and every slot by itself
 abbrev entries_ok : State → Bool
@@ -131,25 +131,25 @@ entries_ok s =
     runs_ok s.now.0 (seat_marks s) s.running.keys s.running.tasks s.running.len
     && (waits_ok (end_at s) s.waiting.keys s.waiting.tasks s.waiting.len && slots_ok s.table.m s.slots)
 
-entries_says : (s : State) → Says (Entries_ok s) (entries_ok s)
+entries_says : (s : State) → Says (EntriesOk s) (entries_ok s)
 unfolding runs_ok waits_ok slots_ok
 entries_says s =
     and_says _ _ (all_below s.running.len _) _
-    (all_says (Run_ok s) (λ j. run_ok s.now.0 (seat_marks s) (get_or s.running.tasks j 0) (get_or s.running.keys j 0))
+    (all_says (RunOk s) (λ j. run_ok s.now.0 (seat_marks s) (get_or s.running.tasks j 0) (get_or s.running.keys j 0))
     (λ j. and_says _ _ (ltb 0 (get_or s.running.tasks j 0)) _ (ltb_says 0 (get_or s.running.tasks j 0))
     (and_says _ _ (leb s.now.0 (get_or s.running.keys j 0)) _ (leb_says s.now.0 (get_or s.running.keys j 0)) (is_says (get_or (seat_marks s) (get_or s.running.tasks j 0 - 1) false))))
     s.running.len)
     (and_says _ _ (all_below s.waiting.len _) _
-    (all_says (Wait_ok s) (λ j. ltb 0 (get_or s.waiting.tasks j 0) && ltb (get_or s.waiting.keys j 0) (end_at s))
+    (all_says (WaitOk s) (λ j. ltb 0 (get_or s.waiting.tasks j 0) && ltb (get_or s.waiting.keys j 0) (end_at s))
     (λ j. and_says _ _ (ltb 0 (get_or s.waiting.tasks j 0)) _ (ltb_says 0 (get_or s.waiting.tasks j 0)) (ltb_says (get_or s.waiting.keys j 0) (end_at s)))
     s.waiting.len)
-    (all_says (Slot_ok s) (λ p. ltb p s.table.m || eqb (get_or s.slots p 0) 0)
+    (all_says (SlotOk s) (λ p. ltb p s.table.m || eqb (get_or s.slots p 0) 0)
     (λ p. or_says (p < s.table.m) (get_or s.slots p 0 ≡ 0) (ltb p s.table.m) _ (ltb_says p s.table.m) (eqb_says (get_or s.slots p 0) 0)) 16))
 
-abbrev Members_ok : State → Type 0
-Members_ok s =
-    All_fresh s.table.count s.jobs.awake (members s.running) no_marks
-    × (All_fresh s.table.count s.jobs.awake (members s.waiting) (run_marks s) × All_fresh s.table.count (run_marks s) s.slots no_marks)
+abbrev MembersOk : State → Type 0
+MembersOk s =
+    AllFresh s.table.count s.jobs.awake (members s.running) no_marks
+    × (AllFresh s.table.count s.jobs.awake (members s.waiting) (run_marks s) × AllFresh s.table.count (run_marks s) s.slots no_marks)
 
 length_no : length no_marks ≡ 128
 length_no = length-replicate {A = Bool} 128 false
@@ -157,7 +157,7 @@ length_no = length-replicate {A = Bool} 128 false
 no_mark : (t : ℕ) → get_or no_marks t false ≡ false
 no_mark t = all_one false 128 t
 
-members_says : (s : State) → s.table.count ≤ 128 → Says (Members_ok s) (members_ok s.table.count s.jobs.awake (members s.running) (members s.waiting) s.slots)
+members_says : (s : State) → s.table.count ≤ 128 → Says (MembersOk s) (members_ok s.table.count s.jobs.awake (members s.running) (members s.waiting) s.slots)
 unfolding members_ok
 members_says s few =
     and_says _ _ (all_fresh s.table.count s.jobs.awake (members s.running) no_marks) _
@@ -168,7 +168,7 @@ members_says s few =
 
 -- THE STATE
 abbrev Tested : State → Type 0
-Tested s = (s.table.m ≤ 16) × (Queue_ok s.running × (Queue_ok s.waiting × (Entries_ok s × Members_ok s)))
+Tested s = (s.table.m ≤ 16) × (QueueOk s.running × (QueueOk s.waiting × (EntriesOk s × MembersOk s)))
 
 module _ (s : State) (z : Sized s) (few : s.table.count ≤ 128) where
   to_sound : Tested s → Sound s
@@ -196,10 +196,10 @@ module _ (s : State) (z : Sized s) (few : s.table.count ≤ 128) where
       low : (t : ℕ) → t < s.table.count → t < length no_marks
       low t h = omega (arith, length_no)
 
-      each_run : (j : ℕ) → j < s.running.len → Run_ok s j
+      each_run : (j : ℕ) → j < s.running.len → RunOk s j
       each_run = b.1.1.1.0.0
 
-      each_wait : (j : ℕ) → j < s.waiting.len → Wait_ok s j
+      each_wait : (j : ℕ) → j < s.waiting.len → WaitOk s j
       each_wait = b.1.1.1.0.1.0
 
       R : Good s.running
@@ -263,7 +263,7 @@ module _ (s : State) (z : Sized s) (few : s.table.count ≤ 128) where
       past : (p : ℕ) → s.table.m ≤ p → Dec (p < 16) → get_or s.slots p 0 ≡ 0
       past p h (yes g) = by (b.1.1.1.0.1.1 p g)
         where
-          by : Slot_ok s p → get_or s.slots p 0 ≡ 0
+          by : SlotOk s p → get_or s.slots p 0 ≡ 0
           by (inl x) = absurd (omega arith)
           by (inr x) = x
       past p h (no g) = get_or-eq_default s.slots 0 {n = p} (omega (arith, z.slots))
@@ -326,16 +326,16 @@ module _ (s : State) (z : Sized s) (few : s.table.count ≤ 128) where
           let p = S.seats.sits t k e in
           (x.0, (x.2, marked_in s.slots no_marks p.0 (t - 1) (low (t - 1) (omega (arith, x.0, x.1))) (p.2 ∙ omega (arith, x.0))))
 
-      each_run : (j : ℕ) → j < s.running.len → Run_ok s j
+      each_run : (j : ℕ) → j < s.running.len → RunOk s j
       each_run = at_places s.running S.running (λ t k. (0 < t) × ((s.now.0 ≤ k) × (get_or (seat_marks s) (t - 1) false ≡ true))) seated
 
-      each_wait : (j : ℕ) → j < s.waiting.len → Wait_ok s j
+      each_wait : (j : ℕ) → j < s.waiting.len → WaitOk s j
       each_wait = at_places s.waiting S.waiting (λ t k. (0 < t) × (k < end_at s)) (λ t k e. let x = S.wait_in t k e in (x.0, x.2))
 
-      each_slot : (p : ℕ) → p < 16 → Slot_ok s p
+      each_slot : (p : ℕ) → p < 16 → SlotOk s p
       each_slot p h = go (dec_lt p s.table.m)
         where
-          go : Dec (p < s.table.m) → Slot_ok s p
+          go : Dec (p < s.table.m) → SlotOk s p
           go (yes g) = inl g
           go (no g) = inr (S.seats.past p (omega arith))
 

@@ -32,10 +32,10 @@ use Rattle.state.proofs.Opening.{end_same, open_is, opens_now}
 use Rattle.state.proofs.Passing.{advance_is, next_late, slots_same}
 use Rattle.state.proofs.Seizing.{events_is, frame_events}
 use Rattle.state.proofs.Shows.{Is, next_same}
-use Rattle.state.proofs.Views.{crew, Is_state, sound_is, seen_as, view_is, put_is}
+use Rattle.state.proofs.Views.{crew, IsState, sound_is, seen_as, view_is, put_is}
 
 -- WHAT THE RULES KNOW OF AN OPEN PLANE: it ends at the tick e, which is later than the present, and it stands
-pub record In_plane (r : Rules.State) (e : ℕ) : Type 0 where
+pub record InPlane (r : Rules.State) (e : ℕ) : Type 0 where
   pub scale : 0 < r.scale
   pub before : r.now < e * r.scale
   pub stands : Stands r.m r.scale (e * r.scale - r.now) r.tasks
@@ -48,7 +48,7 @@ pub record Reached (s : State) (l : List Task) (to : ℕ) : Type 0 where
   pub is : Is (crew s) (at_time to (work_of s)) (advance (to - s.now.0) l)
   pub fits : Fits 0 s.table.m s.table.scale (end_at s - to) (advance (to - s.now.0) l)
 
-module _ (s : State) (l : List Task) (I : Is_state s l) (P : In_plane (seen_as s l) s.end) (stop : ℕ) (hn : s.now.0 < stop) where
+module _ (s : State) (l : List Task) (I : IsState s l) (P : InPlane (seen_as s l) s.end) (stop : ℕ) (hn : s.now.0 < stop) where
   next : Next (end_at s) s.now.0 stop (end_at s - s.now.0) (next_of (work_of s) stop) l
   next = rw (next_same I stop) at (next_ok (end_at s) s.now.0 stop l P.stands (omega (arith, P.before)) (omega (arith, P.before)) hn)
 
@@ -67,7 +67,7 @@ record Done (k : State) (r : Rules.State) : Type 0 where
   sound : Sound k
   same : view k ≡ r
 
-module _ (s : State) (l : List Task) (I : Is_state s l) (on : s.going ≡ true) (P : In_plane (seen_as s l) s.end) (stop : ℕ) (hn : s.now.0 < stop) where
+module _ (s : State) (l : List Task) (I : IsState s l) (on : s.going ≡ true) (P : InPlane (seen_as s l) s.end) (stop : ℕ) (hn : s.now.0 < stop) where
   after_same : Done (Machine.move_to s (next_of (work_of s) stop)).state (Calls.after (seen_as s l) s.end (next_of (work_of s) stop) (eqb (next_of (work_of s) stop) (end_at s)))
   unfolding Machine.move_to Calls.after
   after_same = go (eqb to (end_at s)) refl
@@ -110,7 +110,7 @@ pub record CanStep (s : State) : Type 0 where
   pub order : take s.table.count s.table.order ≡ falling (shares_of (view s).tasks)
   pub known : Known (view s).tasks
   pub idle : s.going ≡ false → (i : ℕ) → runs (at i (view s).tasks) + waits (at i (view s).tasks) ≡ 0
-  pub plane : (e : ℕ) → (opened (view s)).plane ≡ some e → In_plane (opened (view s)) e
+  pub plane : (e : ℕ) → (opened (view s)).plane ≡ some e → InPlane (opened (view s)) e
 
 -- OPENED
 -- the state o shows r, is sound, and is s but for its plane
@@ -135,7 +135,7 @@ module _ (s : State) (S : Sound s) (C : CanStep s) where
   ends_alike = end_same s l (sound_is s S) C.known tick C.some_row
 
   open_case_lem : (b : Bool) → s.going ≡ b
-      → ((e : ℕ) → (open_case (view s) (if b then some s.end else none)).plane ≡ some e → In_plane (open_case (view s) (if b then some s.end else none)) e)
+      → ((e : ℕ) → (open_case (view s) (if b then some s.end else none)).plane ≡ some e → InPlane (open_case (view s) (if b then some s.end else none)) e)
       → Opened s (open_case (view s) (if b then some s.end else none)) (if b then s else opens_to s tick e)
   unfolding opens_to
   open_case_lem true q P = record { same = refl; sound = S; on = q; table = refl; now = refl }
@@ -158,7 +158,7 @@ module _ (s : State) (S : Sound s) (C : CanStep s) where
           let b = C.shares i hi in
           (amount_some (get_or s.table.share i 0) tick e b.0 later, omega (arith, amount_in_time (get_or s.table.share i 0) s.table.scale tick e b.1 later))
 
-      O : Is_state (opens_to s tick e) (open_tasks s.table.m (e - tick) l)
+      O : IsState (opens_to s tick e) (open_tasks s.table.m (e - tick) l)
       O = open_is s l (sound_is s S) C.order (C.idle q) tick e amounts
 
   -- the opened state shows the rules' opened state, and is sound
@@ -175,7 +175,7 @@ moved_view s h S C hn =
     let o = opened_of s in
     let O = opened_view s S C in
     let on : plane_of o ≡ some o.end = ap (λ (b : Bool). if b then some o.end else none) O.on in
-    let P : In_plane (view o) o.end = subst (λ (r : Rules.State). In_plane r o.end) (sym O.same) (C.plane o.end (ap (λ (r : Rules.State). r.plane) (sym O.same) ∙ on)) in
+    let P : InPlane (view o) o.end = subst (λ (r : Rules.State). InPlane r o.end) (sym O.same) (C.plane o.end (ap (λ (r : Rules.State). r.plane) (sym O.same) ∙ on)) in
     let hn' : o.now.0 < h * o.table.scale = rw (O.table, O.now) hn in
     let M = move_to_lem o (view o).tasks (sound_is o O.sound) O.on P (h * o.table.scale) hn' in
     let turn : move_in (opened (view s)) (opened (view s)).plane h ≡ move_to (view o) o.end (next_at (o.end * o.table.scale) o.now.0 (view o).tasks (h * o.table.scale)) =

@@ -27,24 +27,24 @@ abbrev pub crew : State → Crew
 crew s = crew_of s.table s.jobs
 
 -- the state is sound and shows the tasks l
-abbrev pub Is_state : State → List Task → Type 0
-Is_state s l = Is (crew s) (work_of s) l
+abbrev pub IsState : State → List Task → Type 0
+IsState s l = Is (crew s) (work_of s) l
 
-pub sound_is : (s : State) → Sound s → Is_state s (tasks_at s)
+pub sound_is : (s : State) → Sound s → IsState s (tasks_at s)
 sound_is s S = record { tidy = S; shows = shows_all (crew s) (work_of s) }
 
 -- the rules' state with the tasks l
 abbrev pub seen_as : State → List Task → Rules.State
 seen_as s l = record { m = s.table.m; scale = s.table.scale; now = s.now.0; plane = plane_of s; tasks = l }
 
-pub view_is : (s : State) (l : List Task) → Is_state s l → view s ≡ seen_as s l
+pub view_is : (s : State) (l : List Task) → IsState s l → view s ≡ seen_as s l
 view_is s l I = ap (seen_as s) (shown (crew s) (work_of s) l I.shows)
 
 -- a work put into a state is its work
 pub put_work : (s : State) (w : Work) → w.m ≡ s.table.m → w.end ≡ end_at s → work_of (with_work s w) ≡ w
 put_work s w a b i = record { m = sym a i; now = w.now; end = sym b i; running = w.running; waiting = w.waiting; slots = w.slots }
 
-pub put_is : (s : State) (w : Work) (l : List Task) → w.m ≡ s.table.m → w.end ≡ end_at s → Is (crew s) w l → Is_state (with_work s w) l
+pub put_is : (s : State) (w : Work) (l : List Task) → w.m ≡ s.table.m → w.end ≡ end_at s → Is (crew s) w l → IsState (with_work s w) l
 put_is s w l a b I = rw (put_work s w a b) I
 
 -- THE TABLE IN THE VIEW

@@ -4,7 +4,7 @@ use queue::Queue;
 use table::Table;
 
 // The tasks' jobs, by row: is it awake, did it ever arrive, its last arrival in ticks.
-#[derive(Drop)]
+#[derive(Clone, Copy)]
 pub struct Jobs {
     pub awake: [bool; 128],
     pub arrived: [bool; 128],
@@ -12,7 +12,7 @@ pub struct Jobs {
 }
 
 // going: is a plane open; end: its end in ticks; slots: the task on each processor, or 0.
-#[derive(Drop)]
+#[derive(Clone, Copy)]
 pub struct State {
     pub table: Table,
     pub now: Instant,

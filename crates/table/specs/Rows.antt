@@ -34,12 +34,12 @@ abbrev pub finding_of : Verdict → Finding
 finding_of v = record { answer = v.answer; row = v.row }
 
 -- every q of the first n places is in range
-abbrev pub Short_in_range : List ℕ → List ℕ → ℕ → Type 0
-Short_in_range ps ds n = (i : ℕ) → i < n → (1 ≤ min (get_or ps i 0) (get_or ds i 0)) × (min (get_or ps i 0) (get_or ds i 0) ≤ most_ticks)
+abbrev pub ShortInRange : List ℕ → List ℕ → ℕ → Type 0
+ShortInRange ps ds n = (i : ℕ) → i < n → (1 ≤ min (get_or ps i 0) (get_or ds i 0)) × (min (get_or ps i 0) (get_or ds i 0) ≤ most_ticks)
 
 -- every share of the first n places is within the largest scale
-abbrev pub Shares_in_range : List ℕ → ℕ → Type 0
-Shares_in_range shares n = (i : ℕ) → i < n → get_or shares i 0 ≤ most_scale
+abbrev pub SharesInRange : List ℕ → ℕ → Type 0
+SharesInRange shares n = (i : ℕ) → i < n → get_or shares i 0 ≤ most_scale
 
 -- past the first n places there are 0 only
 abbrev pub Filled : List ℕ → ℕ → Type 0

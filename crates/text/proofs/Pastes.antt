@@ -11,7 +11,7 @@ use Rattle.rules.specs.Table.{Row, row_bytes, table_bytes}
 use Rattle.rules.proofs.Reading.{length_table}
 use Rattle.text.specs.declared.Item.{Item}
 use Rattle.text.specs.Meaning.{row_by}
-use Rattle.text.specs.Puts.{Rows_put}
+use Rattle.text.specs.Puts.{RowsPut}
 
 pub table_append : (a b : List Row) → table_bytes (a ++ b) ≡ table_bytes a ++ table_bytes b
 unfolding table_bytes
@@ -27,26 +27,26 @@ take_append (suc n) (r ∷ a) b =
     ap (λ (l : List Row). r ∷ l) (take_append n a b) ∙ ap (λ (k : ℕ). r ∷ (take n a ++ take k b)) e
 
 -- rows put after k rows: none where the table is full, none where there is none, one row
-pub rows_full : (l : List ℕ) (k : ℕ) (rows : List Row) → 129 ≤ k → Rows_put l k rows l k
+pub rows_full : (l : List ℕ) (k : ℕ) (rows : List Row) → 129 ≤ k → RowsPut l k rows l k
 unfolding table_bytes
 rows_full l k rows h =
     let e : take (129 - k) rows ≡ [] = ap (λ (n : ℕ). take n rows) (let z : 129 - k ≡ 0 = omega arith in z) in
     (sym (ap (λ (r : List Row). pasted l (12 * k) (table_bytes r)) e ∙ paste_none l (12 * k)), omega (arith, ap length e))
 
-pub rows_none : (l : List ℕ) (k : ℕ) → Rows_put l k [] l k
+pub rows_none : (l : List ℕ) (k : ℕ) → RowsPut l k [] l k
 unfolding table_bytes
 rows_none l k =
     let e : take {A = Row} (129 - k) [] ≡ [] = take-nil (129 - k) in
     (sym (ap (λ (r : List Row). pasted l (12 * k) (table_bytes r)) e ∙ paste_none l (12 * k)), omega (arith, ap length e))
 
-pub rows_one : (l l' : List ℕ) (k : ℕ) (r : Row) → k < 129 → l' ≡ pasted l (12 * k) (row_bytes r) → Rows_put l k (r ∷ []) l' (k + 1)
+pub rows_one : (l l' : List ℕ) (k : ℕ) (r : Row) → k < 129 → l' ≡ pasted l (12 * k) (row_bytes r) → RowsPut l k (r ∷ []) l' (k + 1)
 unfolding table_bytes
 rows_one l l' k r h e =
     let f : take (129 - k) (r ∷ []) ≡ r ∷ [] = take_all (129 - k) (r ∷ []) (omega arith) in
     (e ∙ sym (ap (λ (x : List Row). pasted l (12 * k) (table_bytes x)) f ∙ ap (λ (v : List ℕ). pasted l (12 * k) v) (append-nil (row_bytes r))), omega (arith, ap length f))
 
 -- what is left to put of the rows, after one line
-pub rows_turn : (l l' : List ℕ) (k n : ℕ) (a b : List Row) → k ≤ 129 → 1548 ≤ length l → Rows_put l k a l' n
+pub rows_turn : (l l' : List ℕ) (k n : ℕ) (a b : List Row) → k ≤ 129 → 1548 ≤ length l → RowsPut l k a l' n
     → (n ≤ 129) × (length l' ≡ length l) × (pasted l (12 * k) (table_bytes (take (129 - k) (a ++ b))) ≡ pasted l' (12 * n) (table_bytes (take (129 - n) b)))
     × (12 * k + length (table_bytes (take (129 - k) (a ++ b))) ≡ 12 * n + length (table_bytes (take (129 - n) b)))
 rows_turn l l' k n a b h m p =
@@ -65,5 +65,5 @@ rows_turn l l' k n a b h m p =
     )
 
 -- the same line under another name
-pub rows_as : (l l' : List ℕ) (k n : ℕ) (x y : Item) → x ≡ y → Rows_put l k (row_by y) l' n → Rows_put l k (row_by x) l' n
-rows_as l l' k n x y e p = subst (λ (z : Item). Rows_put l k (row_by z) l' n) (sym e) p
+pub rows_as : (l l' : List ℕ) (k n : ℕ) (x y : Item) → x ≡ y → RowsPut l k (row_by y) l' n → RowsPut l k (row_by x) l' n
+rows_as l l' k n x y e p = subst (λ (z : Item). RowsPut l k (row_by z) l' n) (sym e) p

@@ -11,7 +11,7 @@ use Rattle.ground.specs.Tests.{if◌then◌else◌, every}
 use Rattle.ground.specs.Bytes.{number}
 use Rattle.ground.proofs.Tests.{leb_says, of_true}
 use Rattle.rules.specs.Table.{Row, rows_of}
-use Rattle.rules.proofs.Reading.{Rows_fit, length_table, table_rows}
+use Rattle.rules.proofs.Reading.{RowsFit, length_table, table_rows}
 use Rattle.text.specs.declared.Numeral.{Numeral}
 use Rattle.text.specs.declared.Numeral.TheVariants.{Value, Nothing}
 use Rattle.text.specs.declared.Item.{Item}
@@ -23,57 +23,57 @@ use Rattle.text.specs.Meaning.{items_of, end_at, line_at, row_by, rows_in, table
 use Rattle.text.proofs.Walks.{whole_line, no_line}
 
 -- each number of a text fits 32 bits
-abbrev Numeral_fits : Numeral → Type 0
-Numeral_fits (Value x) = x ≤ most_number
-Numeral_fits Nothing = Unit {0}
+abbrev NumeralFits : Numeral → Type 0
+NumeralFits (Value x) = x ≤ most_number
+NumeralFits Nothing = Unit {0}
 
-numeral_fits : (p : List ℕ) → Numeral_fits (numeral_of p)
+numeral_fits : (p : List ℕ) → NumeralFits (numeral_of p)
 unfolding numeral_of
 numeral_fits p = go (plain p) (every is_digit p) (leb (spelled p) most_number) (λ e. of_true (leb (spelled p) most_number) (leb_says (spelled p) most_number) e)
   where
-    go : (a b c : Bool) → (c ≡ true → spelled p ≤ most_number) → Numeral_fits (if a && (b && c) then Value (spelled p) else Nothing)
+    go : (a b c : Bool) → (c ≡ true → spelled p ≤ most_number) → NumeralFits (if a && (b && c) then Value (spelled p) else Nothing)
     go true true true f = f refl
     go true true false f = tt
     go true false c f = tt
     go false b c f = tt
 
 -- and so does each number of a line
-abbrev pub Item_fits : Item → Type 0
-Item_fits (Processors m) = m ≤ most_number
-Item_fits (Task p e d) = (p ≤ most_number) × (e ≤ most_number) × (d ≤ most_number)
-Item_fits (Arrive t i) = (t ≤ most_number) × (i ≤ most_number)
-Item_fits (Until t) = t ≤ most_number
-Item_fits Other = Unit {0}
+abbrev pub ItemFits : Item → Type 0
+ItemFits (Processors m) = m ≤ most_number
+ItemFits (Task p e d) = (p ≤ most_number) × (e ≤ most_number) × (d ≤ most_number)
+ItemFits (Arrive t i) = (t ≤ most_number) × (i ≤ most_number)
+ItemFits (Until t) = t ≤ most_number
+ItemFits Other = Unit {0}
 
-two_fit : (w : List ℕ) (a b : Numeral) → Numeral_fits a → Numeral_fits b → Item_fits (with_two w a b)
+two_fit : (w : List ℕ) (a b : Numeral) → NumeralFits a → NumeralFits b → ItemFits (with_two w a b)
 two_fit w (Value x) (Value y) f g = go (same w arrive_word)
   where
-    go : (t : Bool) → Item_fits (if t then Arrive x y else Other)
+    go : (t : Bool) → ItemFits (if t then Arrive x y else Other)
     go true = (f, g)
     go false = tt
 two_fit w (Value x) Nothing f g = tt
 two_fit w Nothing b f g = tt
 
-one_fit : (w : List ℕ) (a : Numeral) → Numeral_fits a → Item_fits (with_one w a)
+one_fit : (w : List ℕ) (a : Numeral) → NumeralFits a → ItemFits (with_one w a)
 one_fit w (Value x) f = go (same w processors_word) (same w until_word)
   where
-    go : (t u : Bool) → Item_fits (if t then Processors x else (if u then Until x else Other))
+    go : (t u : Bool) → ItemFits (if t then Processors x else (if u then Until x else Other))
     go true u = f
     go false true = f
     go false false = tt
 one_fit w Nothing f = tt
 
-three_fit : (w : List ℕ) (a b c : Numeral) → Numeral_fits a → Numeral_fits b → Numeral_fits c → Item_fits (with_three w a b c)
+three_fit : (w : List ℕ) (a b c : Numeral) → NumeralFits a → NumeralFits b → NumeralFits c → ItemFits (with_three w a b c)
 three_fit w (Value x) (Value y) (Value z) f g h = go (same w task_word)
   where
-    go : (t : Bool) → Item_fits (if t then Task x y z else Other)
+    go : (t : Bool) → ItemFits (if t then Task x y z else Other)
     go true = (f, g, h)
     go false = tt
 three_fit w (Value x) (Value y) Nothing f g h = tt
 three_fit w (Value x) Nothing c f g h = tt
 three_fit w Nothing b c f g h = tt
 
-parts_fit : (ps : List (List ℕ)) → Item_fits (of_parts ps)
+parts_fit : (ps : List (List ℕ)) → ItemFits (of_parts ps)
 parts_fit [] = tt
 parts_fit (w ∷ []) = tt
 parts_fit (w ∷ a ∷ []) = one_fit w (numeral_of a) (numeral_fits a)
@@ -81,42 +81,42 @@ parts_fit (w ∷ a ∷ b ∷ []) = two_fit w (numeral_of a) (numeral_of b) (nume
 parts_fit (w ∷ a ∷ b ∷ c ∷ []) = three_fit w (numeral_of a) (numeral_of b) (numeral_of c) (numeral_fits a) (numeral_fits b) (numeral_fits c)
 parts_fit (w ∷ a ∷ b ∷ c ∷ d ∷ l) = tt
 
-pub item_fits : (line : List ℕ) → Item_fits (item_of line)
+pub item_fits : (line : List ℕ) → ItemFits (item_of line)
 unfolding item_of
 item_fits line = parts_fit (parts_of line)
 
 -- of the line at a place too
-pub line_fits : (s : List ℕ) (at : ℕ) → Item_fits (line_at s at).item
+pub line_fits : (s : List ℕ) (at : ℕ) → ItemFits (line_at s at).item
 unfolding line_at
 line_fits s at = go (ltb (end_at s at) (length s))
   where
-    go : (t : Bool) → Item_fits (if t then whole_line s at (end_at s at) else no_line s).item
+    go : (t : Bool) → ItemFits (if t then whole_line s at (end_at s at) else no_line s).item
     go true = item_fits (take (end_at s at - at) (drop at s))
     go false = tt
 
-item_rows : (x : Item) → Item_fits x → Rows_fit (row_by x)
+item_rows : (x : Item) → ItemFits x → RowsFit (row_by x)
 item_rows (Processors m) f = tt
 item_rows (Task p e d) f = (f, tt)
 item_rows (Arrive t i) f = tt
 item_rows (Until t) f = tt
 item_rows Other f = tt
 
-fit_append : (a b : List Row) → Rows_fit a → Rows_fit b → Rows_fit (a ++ b)
+fit_append : (a b : List Row) → RowsFit a → RowsFit b → RowsFit (a ++ b)
 fit_append [] b f g = g
 fit_append (r ∷ a) b f g = (f.0, fit_append a b f.1 g)
 
-fit_take : (n : ℕ) (rs : List Row) → Rows_fit rs → Rows_fit (take n rs)
+fit_take : (n : ℕ) (rs : List Row) → RowsFit rs → RowsFit (take n rs)
 fit_take zero [] f = tt
 fit_take zero (r ∷ rs) f = tt
 fit_take (suc n) [] f = tt
 fit_take (suc n) (r ∷ rs) f = (f.0, fit_take n rs f.1)
 
-lines_rows : (ls : List (List ℕ)) → Rows_fit (rows_in (map item_of ls))
+lines_rows : (ls : List (List ℕ)) → RowsFit (rows_in (map item_of ls))
 unfolding rows_in
 lines_rows [] = tt
 lines_rows (l ∷ ls) = fit_append (row_by (item_of l)) (rows_in (map item_of ls)) (item_rows (item_of l) (item_fits l)) (lines_rows ls)
 
-pub text_rows_fit : (text : List ℕ) → Rows_fit (rows_in (items_of text))
+pub text_rows_fit : (text : List ℕ) → RowsFit (rows_in (items_of text))
 unfolding items_of
 text_rows_fit text = lines_rows (lines_of text)
 

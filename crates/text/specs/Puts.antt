@@ -12,5 +12,5 @@ abbrev pub Counts : ℕ → List ℕ → Type 0
 Counts n l = (n ≤ length l) × (n ≡ length (take n l))
 
 -- rows were put after the first k rows, as long as there are fewer than 129: what the list is then, and the number of rows
-abbrev pub Rows_put : List ℕ → ℕ → List Row → List ℕ → ℕ → Type 0
-Rows_put l k rows l' next = (l' ≡ pasted l (12 * k) (table_bytes (take (129 - k) rows))) × (next ≡ k + length (take (129 - k) rows))
+abbrev pub RowsPut : List ℕ → ℕ → List Row → List ℕ → ℕ → Type 0
+RowsPut l k rows l' next = (l' ≡ pasted l (12 * k) (table_bytes (take (129 - k) rows))) × (next ≡ k + length (take (129 - k) rows))

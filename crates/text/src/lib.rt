@@ -6,17 +6,17 @@ ghost use Rattle.text.specs.Lines.{with_one, with_two, with_three, item_of};
 ghost use Rattle.text.specs.Form.{may_stand, stage_after, form_from, form_of};
 ghost use Rattle.ground.specs.Bytes.{le, pasted};
 ghost use Rattle.text.specs.Meaning.{items_of, line_at, processors_in, is_task, row_line_of, row_by, table_of};
-ghost use Rattle.text.specs.Puts.{Put, Counts, Rows_put};
+ghost use Rattle.text.specs.Puts.{Put, Counts, RowsPut};
 
 // What a part is: a number, or none.
-#[derive(Drop)]
+#[derive(Clone, Copy)]
 pub enum Numeral {
     Value(u64),
     Nothing,
 }
 
 // What a line says.
-#[derive(Drop)]
+#[derive(Clone, Copy)]
 pub enum Item {
     Processors(u64),
     Task(u64, u64, u64),
@@ -26,14 +26,14 @@ pub enum Item {
 }
 
 // Whether a text keeps the form; the number of the first line that breaks it, or 0 where the text is too long.
-#[derive(Drop)]
+#[derive(Clone, Copy)]
 pub enum Checked {
     Good,
     Broken(u64),
 }
 
 // A line of the text: what it says, and the place where the next one begins.
-#[derive(Drop)]
+#[derive(Clone, Copy)]
 pub struct Line {
     pub item: Item,
     pub next: usize,
@@ -371,7 +371,7 @@ fn put_row(out: &mut [u8], at: usize, p: u64, e: u64, d: u64)
 // The row of a task line, after k rows, as long as there are fewer than 129; the number of rows then.
 fn put_task(out: &mut [u8], k: usize, p: u64, e: u64, d: u64) -> usize
     requires room { (k ≤ 129) × (1548 ≤ length out.old) }
-    ensures is { Rows_put out.old k (row_by (Item.Task p e d)) out.new result }
+    ensures is { RowsPut out.old k (row_by (Item.Task p e d)) out.new result }
 {
     if 129 <= k {
         return k;
@@ -383,7 +383,7 @@ fn put_task(out: &mut [u8], k: usize, p: u64, e: u64, d: u64) -> usize
 // The row that a line gives, if any, after k rows.
 fn put_item(out: &mut [u8], k: usize, item: Item) -> usize
     requires room { (k ≤ 129) × (1548 ≤ length out.old) }
-    ensures is { Rows_put out.old k (row_by item) out.new result }
+    ensures is { RowsPut out.old k (row_by item) out.new result }
 {
     match item {
         Item::Processors(_) => k,

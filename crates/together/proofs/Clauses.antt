@@ -28,7 +28,7 @@ use Rattle.state.proofs.Lasts.{Known, due_kept, soonest_kept}
 use Rattle.state.proofs.Marks.{is_says}
 use Rattle.state.proofs.Passing.{awake_at}
 use Rattle.state.proofs.Shows.{in_list, run_cond, wait_cond, run_key_at, wait_key_at}
-use Rattle.state.proofs.Views.{Is_state, sound_is}
+use Rattle.state.proofs.Views.{IsState, sound_is}
 use Rattle.together_rows.specs.Jobs.{last_ok, lasts_ok, rest_ok, rests_ok, ceil_of, soonest_of, limit_ok, limits_ok, awake_sum}
 use Rattle.together_queues.specs.Amounts.{run_amounts_ok, wait_amounts_ok, idle_ok, run_sum, wait_sum, sum_ok, amounts_ok}
 use Rattle.together.specs.Clauses.{closed_by, open_by}
@@ -66,7 +66,7 @@ last_exact x L now p =
     (says_as (leb x (now / L)) (λ h. (le-div_iff_mul-le p).0 h) (λ h. (le-div_iff_mul-le p).1 h) (leb_says x (now / L)))
 
 module _ (s : State) (S : Sound s) where
-  I : Is_state s (tasks_at s)
+  I : IsState s (tasks_at s)
   I = sound_is s S
 
   size : length (tasks_at s) ≡ s.table.count
@@ -143,11 +143,11 @@ module _ (s : State) (S : Sound s) where
 
   -- AN OPEN PLANE
   -- the keys of a plane whose amounts fit
-  abbrev Keys_ok : Type 0
-  Keys_ok =
+  abbrev KeysOk : Type 0
+  KeysOk =
       ((t k : ℕ) → key_in s.running t ≡ some k → (s.now.0 < k) × (k ≤ end_at s)) × ((t k : ℕ) → key_in s.waiting t ≡ some k → (k < end_at s) × (s.now.0 < k))
 
-  keys_says : Says Keys_ok (run_amounts_ok s.now.0 (end_at s) s.running.keys s.running.len && wait_amounts_ok s.now.0 (end_at s) s.waiting.keys s.waiting.len)
+  keys_says : Says KeysOk (run_amounts_ok s.now.0 (end_at s) s.running.keys s.running.len && wait_amounts_ok s.now.0 (end_at s) s.waiting.keys s.waiting.len)
   unfolding run_amounts_ok wait_amounts_ok
   keys_says =
       says_as (run_amounts_ok s.now.0 (end_at s) s.running.keys s.running.len && wait_amounts_ok s.now.0 (end_at s) s.waiting.keys s.waiting.len)
@@ -160,7 +160,7 @@ module _ (s : State) (S : Sound s) where
       (λ j h. let k = get_or s.waiting.keys j 0 in and_says _ _ (ltb k (end_at s)) _ (ltb_says k (end_at s)) (ltb_says s.now.0 k))))
 
   -- each task's amount fits, from the keys, and the keys' bounds from the amounts
-  fit_of : s.now.0 < end_at s → Keys_ok → (j : ℕ) → j < length (tasks_at s) → amount_fits (end_at s - s.now.0) (at j (tasks_at s)).cond ≡ true
+  fit_of : s.now.0 < end_at s → KeysOk → (j : ℕ) → j < length (tasks_at s) → amount_fits (end_at s - s.now.0) (at j (tasks_at s)).cond ≡ true
   fit_of p r j h = go (key_in s.running (suc j)) refl (key_in s.waiting (suc j)) refl
     where
       b : j < s.table.count
@@ -182,7 +182,7 @@ module _ (s : State) (S : Sound s) where
       go none e none f =
           none_fits (at j (tasks_at s)).cond (not_running s.now.0 (at j (tasks_at s)).cond (run_key_at I j b ∙ e)) (not_waiting (end_at s) (at j (tasks_at s)).cond (wait_key_at I j b ∙ f))
 
-  of_fit : s.now.0 < end_at s → ((j : ℕ) → j < length (tasks_at s) → amount_fits (end_at s - s.now.0) (at j (tasks_at s)).cond ≡ true) → Keys_ok
+  of_fit : s.now.0 < end_at s → ((j : ℕ) → j < length (tasks_at s) → amount_fits (end_at s - s.now.0) (at j (tasks_at s)).cond ≡ true) → KeysOk
   of_fit p r = (runs_by, waits_by)
     where
       named : (t : ℕ) → 0 < t → t ≡ suc (t - 1)
@@ -213,7 +213,7 @@ module _ (s : State) (S : Sound s) where
   amounts_same : s.now.0 < end_at s
       → every (λ (t : Task). amount_fits (end_at s - s.now.0) t.cond) (tasks_at s) ≡ run_amounts_ok s.now.0 (end_at s) s.running.keys s.running.len && wait_amounts_ok s.now.0 (end_at s) s.waiting.keys s.waiting.len
   amounts_same p =
-      same_test Keys_ok _ _
+      same_test KeysOk _ _
       (says_as (every (λ (t : Task). amount_fits (end_at s - s.now.0) t.cond) (tasks_at s)) (of_fit p) (fit_of p)
       (every_says (λ t. amount_fits (end_at s - s.now.0) t.cond ≡ true) _ nobody (λ t. is_says (amount_fits (end_at s - s.now.0) t.cond)) (tasks_at s)))
       keys_says

@@ -26,7 +26,7 @@ use Rattle.state.proofs.Lasts.{Known}
 use Rattle.state.proofs.Shows.{shows_all}
 use Rattle.state.proofs.Sound.{sound_says}
 use Rattle.state.proofs.Views.{crew, sound_is}
-use Rattle.together.specs.Holds.{clock_ok, plane_ok, arrivals_ok, holds_of, rows_in, shares_in, TableOk, Order_ok, Holding}
+use Rattle.together.specs.Holds.{clock_ok, plane_ok, arrivals_ok, holds_of, rows_in, shares_in, TableOk, OrderOk, Holding}
 use Rattle.together_rows.specs.Tables.{table_ok}
 use Rattle.together.proofs.Clauses.{lasts_same, plane_same}
 use Rattle.together_rows.proofs.Folds.{and_then, and_after}
@@ -101,7 +101,7 @@ module _ (s : State) where
     where
       Parts : Type 0
       Parts =
-          TableOk s.table × ((s.now.0 ≤ clock * s.table.scale) × (Sound s × (Plane (view s) (view s).plane × (Lasts s.table.scale s.now.0 (tasks_at s) × Order_ok s.table))))
+          TableOk s.table × ((s.now.0 ≤ clock * s.table.scale) × (Sound s × (Plane (view s) (view s).plane × (Lasts s.table.scale s.now.0 (tasks_at s) × OrderOk s.table))))
 
       to : Parts → Holding s
       to h =

@@ -16,7 +16,7 @@ use Rattle.ground.proofs.Ranges.{length_up, at_up}
 use Rattle.ground.proofs.Tests.{leb_says, ltb_says, eqb_says, and_says, or_says, says_as}
 use Rattle.rules.specs.Admission.{processors_ok}
 use Rattle.rules.specs.Planes.{falling}
-use Rattle.rules.specs.Reasons.{Row_ok}
+use Rattle.rules.specs.Reasons.{RowOk}
 use Rattle.rules.specs.Scale.{gcd, scale_of, share_of}
 use Rattle.rules.specs.State.{no_row}
 use Rattle.rules.specs.Table.{Row, shorter}
@@ -24,7 +24,7 @@ use Rattle.rules.proofs.Falling.{Ahead, falling_length, falling_below, falling_f
 use Rattle.rules.proofs.Holding.{processors_says}
 use Rattle.rules.proofs.Scale.{Positive, common_from, scale_positive, scale_test}
 use Rattle.state.specs.View.{row_of}
-use Rattle.together.specs.Holds.{rows_in, shares_in, TableOk, Order_ok}
+use Rattle.together.specs.Holds.{rows_in, shares_in, TableOk, OrderOk}
 use Rattle.together_rows.specs.Tables.{rows_ok, scale_in_range, shares_ok, common_below, scale_ok, table_ok, places_ok, ahead, falls_ok, order_ok}
 use Rattle.together_rows.proofs.Tables.{row_ok_says}
 use Rattle.together_rows.proofs.Folds.{and_then, below_says}
@@ -51,25 +51,25 @@ common_rows t l (suc n) =
     ap (λ (g : ℕ). gcd g (l / shorter (row_of t n))) (common_rows t l n) ∙ sym (rw z at (common_last (row_of t) l l 0 n))
 
 -- ROWS
-rows_ok_says : (t : Table) → Says ((i : ℕ) → i < t.count → Row_ok (row_of t i)) (rows_ok t.period t.exec t.deadline t.count)
+rows_ok_says : (t : Table) → Says ((i : ℕ) → i < t.count → RowOk (row_of t i)) (rows_ok t.period t.exec t.deadline t.count)
 unfolding rows_ok
-rows_ok_says t = below_says (λ i. Row_ok (row_of t i)) _ t.count (λ i h. row_ok_says (row_of t i))
+rows_ok_says t = below_says (λ i. RowOk (row_of t i)) _ t.count (λ i h. row_ok_says (row_of t i))
 
 -- SCALE AND SHARES
 -- every q is positive
-positive : (t : Table) → ((i : ℕ) → i < t.count → Row_ok (row_of t i)) → Positive (rows_in t)
+positive : (t : Table) → ((i : ℕ) → i < t.count → RowOk (row_of t i)) → Positive (rows_in t)
 positive t R i h =
     let b : i < t.count = omega (arith, rows_length t) in
     rw (row_in t i b) (let r = (R i b).0 in let p = r.0.0 in let d = r.2.0 in omega arith)
 
-abbrev Scale_ok : Table → Type 0
-Scale_ok t = (t.scale ≡ scale_of (rows_in t)) × ((i : ℕ) → i < t.count → get_or t.share i 0 ≡ share_of t.scale (row_of t i))
+abbrev ScaleOk : Table → Type 0
+ScaleOk t = (t.scale ≡ scale_of (rows_in t)) × ((i : ℕ) → i < t.count → get_or t.share i 0 ≡ share_of t.scale (row_of t i))
 
-abbrev Share_ok : Table → ℕ → Type 0
-Share_ok t i = (t.scale / shorter (row_of t i) * shorter (row_of t i) ≡ t.scale) × (get_or t.share i 0 ≡ get_or t.exec i 0 * (t.scale / shorter (row_of t i)))
+abbrev ShareOk : Table → ℕ → Type 0
+ShareOk t i = (t.scale / shorter (row_of t i) * shorter (row_of t i) ≡ t.scale) × (get_or t.share i 0 ≡ get_or t.exec i 0 * (t.scale / shorter (row_of t i)))
 
-module _ (t : Table) (R : (i : ℕ) → i < t.count → Row_ok (row_of t i)) (pos : 0 < t.scale) where
-  scale_of_lem : ((i : ℕ) → i < t.count → Share_ok t i) × (common_below t.scale t.period t.deadline t.count ≡ 1) → Scale_ok t
+module _ (t : Table) (R : (i : ℕ) → i < t.count → RowOk (row_of t i)) (pos : 0 < t.scale) where
+  scale_of_lem : ((i : ℕ) → i < t.count → ShareOk t i) × (common_below t.scale t.period t.deadline t.count ≡ 1) → ScaleOk t
   unfolding share_of
   scale_of_lem h = (
     (scale_test (rows_in t) t.scale (positive t R) pos).1 (
@@ -81,7 +81,7 @@ module _ (t : Table) (R : (i : ℕ) → i < t.count → Row_ok (row_of t i)) (po
     λ i k. (h.0 i k).1,
   )
 
-  of_scale : Scale_ok t → ((i : ℕ) → i < t.count → Share_ok t i) × (common_below t.scale t.period t.deadline t.count ≡ 1)
+  of_scale : ScaleOk t → ((i : ℕ) → i < t.count → ShareOk t i) × (common_below t.scale t.period t.deadline t.count ≡ 1)
   unfolding share_of
   of_scale h =
       let m = (scale_test (rows_in t) t.scale (positive t R) pos).0 h.0 in (
@@ -89,12 +89,12 @@ module _ (t : Table) (R : (i : ℕ) → i < t.count → Row_ok (row_of t i)) (po
         common_rows t t.scale t.count ∙ m.1,
       )
 
-  scale_says : Says (Scale_ok t) (scale_ok t.scale t.period t.exec t.deadline t.share t.count)
+  scale_says : Says (ScaleOk t) (scale_ok t.scale t.period t.exec t.deadline t.share t.count)
   unfolding scale_ok shares_ok
   scale_says =
       says_as (scale_ok t.scale t.period t.exec t.deadline t.share t.count) scale_of_lem of_scale
       (and_says _ _ (shares_ok t.scale t.period t.exec t.deadline t.share t.count) _
-      (below_says (Share_ok t) _ t.count
+      (below_says (ShareOk t) _ t.count
       (λ i h. let q = shorter (row_of t i) in
       and_says _ _ (eqb (t.scale / q * q) t.scale) _ (eqb_says (t.scale / q * q) t.scale) (eqb_says (get_or t.share i 0) (get_or t.exec i 0 * (t.scale / q)))))
       (eqb_says (common_below t.scale t.period t.deadline t.count) 1))
@@ -151,7 +151,7 @@ module _ (t : Table) (few : t.count ≤ 128) (room : length t.order ≡ 128) whe
   entry : (k : ℕ) → k < t.count → get_or (take t.count t.order) k 0 ≡ get_or t.order k 0
   entry k h = get_or-take t.count t.order k 0 h
 
-  kept : Places t.order t.count × Chain t.share t.order t.count → Order_ok t
+  kept : Places t.order t.count × Chain t.share t.order t.count → OrderOk t
   kept h =
       falling_unique (shares_in t) (take t.count t.order) (long ∙ sym wide)
       (λ k q. let b : k < t.count = omega (arith, long) in rw (entry k b) (omega (arith, h.0 k b, wide)))
@@ -162,7 +162,7 @@ module _ (t : Table) (few : t.count ≤ 128) (room : length t.order ≡ 128) whe
       let a = rw s at (h.1 k (omega arith)) in
       rw (entry k c, entry (suc k) b, share_in t (get_or t.order k 0) (h.0 k c), share_in t (get_or t.order (suc k) 0) (h.0 (suc k) b)) a)
 
-  from_kept : Order_ok t → Places t.order t.count × Chain t.share t.order t.count
+  from_kept : OrderOk t → Places t.order t.count × Chain t.share t.order t.count
   from_kept e = (places, chain)
     where
       same : (k : ℕ) → k < t.count → get_or t.order k 0 ≡ get_or (falling (shares_in t)) k 0
@@ -178,7 +178,7 @@ module _ (t : Table) (few : t.count ≤ 128) (room : length t.order ≡ 128) whe
           let a = falling_falls (shares_in t) k (k + 1) (omega arith) (omega (arith, falling_length (shares_in t), wide)) in
           rw (← same k c, ← same (k + 1) b, share_in t (get_or t.order k 0) (places k c), share_in t (get_or t.order (k + 1) 0) (places (k + 1) b)) at a
 
-  pub order_ok_says : Says (Order_ok t) (order_ok t)
+  pub order_ok_says : Says (OrderOk t) (order_ok t)
   unfolding order_ok places_ok falls_ok
   order_ok_says =
       says_as (order_ok t) kept from_kept

@@ -6,7 +6,7 @@ use Rattle.ground.specs.Sums.{up_from}
 use Rattle.rules.specs.Table.{Row}
 use Rattle.rules.specs.Scale.{scale_of, share_of}
 use Rattle.rules.specs.Planes.{falling, shares_of}
-use Rattle.rules.specs.Reasons.{Row_ok}
+use Rattle.rules.specs.Reasons.{RowOk}
 use Rattle.rules.specs.Holds.{holds}
 use Rattle.queue.specs.declared.Queue.{Queue}
 use Rattle.table.specs.declared.Table.{Table}
@@ -70,15 +70,15 @@ shares_in t = map (λ i. get_or t.share i 0) (up_from 0 t.count)
 pub record TableOk (t : Table) : Type 0 where
   pub processors : (1 ≤ t.m) × (t.m ≤ 16)
   pub size : (1 ≤ t.count) × (t.count ≤ 128)
-  pub rows : (i : ℕ) → i < t.count → Row_ok (row_of t i)
+  pub rows : (i : ℕ) → i < t.count → RowOk (row_of t i)
   pub scale_is : t.scale ≡ scale_of (rows_in t)
   pub scale_most : t.scale ≤ most_scale
   pub share_is : (i : ℕ) → i < t.count → get_or t.share i 0 ≡ share_of t.scale (row_of t i)
   pub sum : share_sum_of t.share t.count ≤ t.m * t.scale
 
 -- the order that it keeps is the falling order of its shares
-abbrev pub Order_ok : Table → Type 0
-Order_ok t = take t.count t.order ≡ falling (shares_in t)
+abbrev pub OrderOk : Table → Type 0
+OrderOk t = take t.count t.order ≡ falling (shares_in t)
 
 -- WHAT THE TEST SAYS
 -- the queues, the flags and the slots agree, the rules' own "holds together" is true of the view, and the kept order is the falling order

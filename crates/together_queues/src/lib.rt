@@ -150,7 +150,7 @@ fn seats_ok(
 // ENTRIES
 
 // What one loop over a queue finds: does every entry pass, and the sum of its keys, counted from the present.
-#[derive(Drop)]
+#[derive(Clone, Copy)]
 pub struct Held {
     pub ok: bool,
     pub sum: u64,

@@ -11,7 +11,7 @@ use lib.ListN.{get_or}
 use Rattle.ground.specs.Tests.{Says}
 use Rattle.ground.proofs.Tests.{leb_says, and_says, is_false, is_true}
 use Rattle.rules.specs.Bounds.{most_ticks}
-use Rattle.rules.specs.Reasons.{Row_ok}
+use Rattle.rules.specs.Reasons.{RowOk}
 use Rattle.rules.specs.Scale.{gcd}
 use Rattle.rules.specs.Table.{Row, shorter, row_in_range}
 use Rattle.rules.proofs.Admitting.{row_says}
@@ -19,7 +19,7 @@ use Rattle.rules.proofs.Euclid.{gcd_divides_left, gcd_divides_right}
 use Rattle.together_rows.specs.Tables.{row_ok, common_below, ahead}
 
 -- ROWS
-pub row_ok_says : (r : Row) → Says (Row_ok r) (row_ok r.period r.exec r.deadline)
+pub row_ok_says : (r : Row) → Says (RowOk r) (row_ok r.period r.exec r.deadline)
 row_ok_says r = and_says _ _ (row_in_range r) _ (row_says r) (leb_says r.exec (shorter r))
 
 module _ (p e d : ℕ) where

@@ -11,7 +11,7 @@ use ground::{Instant, wide_word};
 use table::{gcd, place, processors_ok, shorter};
 
 // What one loop over the rows finds: does every row pass, is some q L itself, the sum of all shares, and of the awake tasks'.
-#[derive(Drop)]
+#[derive(Clone, Copy)]
 pub struct Sums {
     pub ok: bool,
     pub whole: bool,
@@ -20,7 +20,7 @@ pub struct Sums {
 }
 
 // Does the table pass with the instant, the last arrivals and the limits? Then also the sum of the awake tasks' shares.
-#[derive(Drop)]
+#[derive(Clone, Copy)]
 pub struct Verdict {
     pub ok: bool,
     pub shares: u64,

@@ -11,7 +11,7 @@ use Rattle.ground.specs.Sums.{sum_of}
 use Rattle.rules.specs.Planes.{falling}
 use Rattle.rules.specs.Scale.{scale_of, share_of}
 use Rattle.rules.specs.Admission.{Verdict, size_verdict}
-use Rattle.table.specs.Rows.{row_in, rows_held, Shares_in_range, bounded_scale, share_sum_of}
+use Rattle.table.specs.Rows.{row_in, rows_held, SharesInRange, bounded_scale, share_sum_of}
 use Rattle.table.specs.Tabled.{tabled_by}
 use Rattle.admission.proofs.Tables.{weighed, done_is}
 use Rattle.admission.proofs.Sizes.{bounded_none, bounded_some, size_scale, size_shares, size_done, short_in_range, scale_some, shares_in_range, shares_sum, order_stored}
@@ -63,7 +63,7 @@ share_sum_requires c κs =
     let long : length rows ≡ a.count = length_up (row_in a.period.now a.exec.now a.deadline.now) 0 a.count in
     let q = c.before.before.before.before.before.before.before.scale in
     let w = weighed rows q.result _ (omega (arith, s.requires.1)) (q.ensures a.exec.now) c.before.before.before.before.before.before.if1.false c.before.shares.ensures in
-    (s.requires.1, subst (λ (l : List ℕ). Shares_in_range l a.count) (sym w.stored) (shares_in_range a.period.now a.exec.now a.deadline.now a.count s.requires.2.3 w.bounded))
+    (s.requires.1, subst (λ (l : List ℕ). SharesInRange l a.count) (sym w.stored) (shares_in_range a.period.now a.exec.now a.deadline.now a.count s.requires.2.3 w.bounded))
 
 returns-2 : tie.Need-returns-2
 returns-2 c =

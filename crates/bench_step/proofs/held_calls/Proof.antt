@@ -6,7 +6,7 @@ use lib.ListN.{length}
 use Rattle.state.specs.declared.State.{State}
 use Rattle.moves.specs.Lent.{state_in}
 use Rattle.moves.specs.Whole.{Whole}
-use Rattle.bench_step.specs.Held.{All_taken}
+use Rattle.bench_step.specs.Held.{AllTaken}
 use Rattle.bench_step.specs.Moments.{terms_of, moment_of}
 use Rattle.bench_step.proofs.Doing.{Doing, doing_from, doing_taken, doing_on, doing_end}
 use Rattle.bench_step.proofs.held_calls.Statement.{statement}
@@ -17,7 +17,7 @@ abbrev invariant-loop : tie.invariant-loop
 invariant-loop count m scale present going end running waiting list period deadline share order awake₀ arrived₀ last₀ rk₀ rt₀ wk₀ wt₀ slots₀ room₀ terms at₀ is-going₀ ends₀ run₀ wait₀ i₀ awake arrived last rk rt wk wt slots room at is-going ends run wait i =
     ((z : State)
     → let s₀ = state_in (terms_of count m scale) (moment_of at₀.0 is-going₀ ends₀ run₀ wait₀) period z.table.exec deadline share order awake₀ arrived₀ last₀ rk₀ rt₀ wk₀ wt₀ slots₀ in
-    Whole s₀ → All_taken s₀ list → Doing s₀ list (state_in terms (moment_of at.0 is-going ends run wait) period z.table.exec deadline share order awake arrived last rk rt wk wt slots) i)
+    Whole s₀ → AllTaken s₀ list → Doing s₀ list (state_in terms (moment_of at.0 is-going ends run wait) period z.table.exec deadline share order awake arrived last rk rt wk wt slots) i)
     × (length room ≡ length room₀)
 
 abbrev decreases-loop : tie.decreases-loop

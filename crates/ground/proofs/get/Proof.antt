@@ -29,13 +29,13 @@ loop-holds c =
     let z = none a.bytes.now a.at a.width in
     (omega arith, z.0, z.1)
 
-mul_r : tie.Need-overflow-mul-r invariant-loop decreases-loop
+mul_r : tie.Need-overflow_mul-r invariant-loop decreases-loop
 mul_r c =
     let k = c.before.before.before.loop in
     let a = c.before.before.before.before.before in
     omega (arith, turn_fits a.args.width k.i k.r 0 a.requires.1 c.before.before.loop-test.true k.invariant.0 k.invariant.2 (omega arith))
 
-add_r : tie.Need-overflow-add-r invariant-loop decreases-loop
+add_r : tie.Need-overflow_add-r invariant-loop decreases-loop
 add_r c =
     let k = c.before.before.before.loop in
     let a = c.before.before.before.before.before in

@@ -1,6 +1,6 @@
 use borrow.Author.Rules.{rules}
 use mathlib.Core.Path.{subst}
-use Rattle.listing.specs.Listing.{Part_fits}
+use Rattle.listing.specs.Listing.{PartFits}
 use Rattle.listing.proofs.Parts.{part_as, put_nothing, refused_as}
 use Rattle.listing.proofs.put_part.Statement.{statement}
 use Rattle.listing.proofs.put_part.Tie as tie
@@ -8,7 +8,7 @@ use Rattle.listing.proofs.put_part.Tie as tie
 put_records_requires : tie.Need-put-records-requires
 put_records_requires c κs =
     let p = c.before.before.before in
-    let f = subst Part_fits p.part2.given.1 p.before.before.requires in
+    let f = subst PartFits p.part2.given.1 p.before.before.requires in
     let few = f.0 in
     let room = f.1 in
     search (rules, few, room)

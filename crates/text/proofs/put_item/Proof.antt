@@ -1,6 +1,6 @@
 use mathlib.Core.Path.{sym, subst}
 use borrow.Author.Rules.{rules}
-use Rattle.text.specs.Puts.{Rows_put}
+use Rattle.text.specs.Puts.{RowsPut}
 use Rattle.text.specs.Meaning.{row_by}
 use Rattle.text.specs.declared.Item.{Item}
 use Rattle.text.proofs.Pastes.{rows_none, rows_as}
@@ -29,7 +29,7 @@ returns : tie.Need-returns
 returns c =
     let l = c.before.before.before.args.out.now in
     let k = c.before.before.before.args.k in
-    subst (λ (x : Item). Rows_put l k (row_by x) l k) (sym c.enum_told.given.1) (rows_none l k)
+    subst (λ (x : Item). RowsPut l k (row_by x) l k) (sym c.enum_told.given.1) (rows_none l k)
 
 same_length : tie.Need-same-length
 same_length c = search rules
@@ -41,19 +41,19 @@ returns-3 : tie.Need-returns-3
 returns-3 c =
     let l = c.before.before.before.args.out.now in
     let k = c.before.before.before.args.k in
-    subst (λ (x : Item). Rows_put l k (row_by x) l k) (sym c.enum-told2.given.1) (rows_none l k)
+    subst (λ (x : Item). RowsPut l k (row_by x) l k) (sym c.enum-told2.given.1) (rows_none l k)
 
 returns-4 : tie.Need-returns-4
 returns-4 c =
     let l = c.before.before.before.args.out.now in
     let k = c.before.before.before.args.k in
-    subst (λ (x : Item). Rows_put l k (row_by x) l k) (sym c.enum-told3.given.1) (rows_none l k)
+    subst (λ (x : Item). RowsPut l k (row_by x) l k) (sym c.enum-told3.given.1) (rows_none l k)
 
 returns-5 : tie.Need-returns-5
 returns-5 c =
     let l = c.before.before.before.args.out.now in
     let k = c.before.before.before.args.k in
-    subst (λ (x : Item). Rows_put l k (row_by x) l k) (sym c.enum-told4.given.1) (rows_none l k)
+    subst (λ (x : Item). RowsPut l k (row_by x) l k) (sym c.enum-told4.given.1) (rows_none l k)
 
 pub put_item_spec : {M : Type 1} → statement M
 put_item_spec =
