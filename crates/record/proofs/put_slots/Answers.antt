@@ -33,21 +33,20 @@ loop-k-init c =
 pub loop-k-preserved : goal.loop-k-preserved
 loop-k-preserved c =
     let k = c.loop-k in
-    let s = c.before in
-    let n : length s.args.t2 ≡ 16 = search rules in (
+    let n : length c.args.slots ≡ 16 = search rules in (
       omega arith,
-      c.put.auto.0 ∙ k.invariant.1,
+      c.put.auto.bytes ∙ k.invariant.1,
       c.put.ensures.is
           ∙ ap (λ (x : ℕ). pasted k.room (16 + 2 * k.k) (le 2 x)) c.wide_half.ensures.is
-          ∙ more k.room s.args.room.now s.args.t2 k.k n (omega (arith, s.requires)) (omega arith) k.invariant.2,
+          ∙ more k.room c.args.room.now c.args.slots k.k n (omega (arith, c.requires.fits)) (omega arith) k.invariant.2,
     )
 
 pub returns : goal.returns
 returns c =
     record { is = let k = c.loop-k in
-    let n : length c.args.t2 ≡ 16 = search rules in
+    let n : length c.args.slots ≡ 16 = search rules in
     let e : k.k ≡ 16 = omega arith in
     let r = c.args.room.now in
     k.invariant.2
-    ∙ ap (λ (m : ℕ). take 16 r ++ slot_bytes (take m c.args.t2) ++ drop (16 + 2 * m) r) e
-    ∙ ap (λ (x : List ℕ). take 16 r ++ slot_bytes x ++ drop 48 r) (take_all 16 c.args.t2 (omega arith)) }
+    ∙ ap (λ (m : ℕ). take 16 r ++ slot_bytes (take m c.args.slots) ++ drop (16 + 2 * m) r) e
+    ∙ ap (λ (x : List ℕ). take 16 r ++ slot_bytes x ++ drop 48 r) (take_all 16 c.args.slots (omega arith)) }
