@@ -1,4 +1,5 @@
 -- The columns hold the rows of the bytes, and the verdict goes by the first test that fails
+use Rattle.std.specs.Prelude.{if◌then◌else◌}
 use mathlib.Core.Path.{◌≡◌, refl, sym, ◌∙◌, ap, subst}
 use mathlib.Core.Bool.{Bool, true, false, ◌&&◌}
 use mathlib.Core.List.{List, map}
@@ -9,7 +10,6 @@ use lib.Dec.{leb, eqb}
 use lib.ListN.{length, get_or, replicate}
 use lib.Seq.{sets}
 use Rattle.ground.proofs.Ranges.{length_up, at_up}
-use Rattle.ground.specs.Tests.{if◌then◌else◌}
 use Rattle.ground.specs.Sums.{up_from}
 use Rattle.ground.proofs.Tests.{leb_says, eqb_says, and_says, of_true}
 use Rattle.rules.specs.declared.Answer.TheVariants.{Processors, TableLength}

@@ -1,6 +1,5 @@
 -- CALLS IN PLACE, one number each: an arrival of this task, or from 4,294,967,296 on a step to the horizon that lies above
-use Rattle.std.specs.Prelude.{true, false, List, [], ◌∷◌, ℕ, ◌*◌, ◌-◌, ◌≤◌, ◌<◌, ltb}
-use Rattle.ground.specs.Tests.{if◌then◌else◌}
+use Rattle.std.specs.Prelude.{true, false, List, [], ◌∷◌, ℕ, ◌*◌, ◌-◌, ◌≤◌, ◌<◌, ltb, if◌then◌else◌}
 use Rattle.rules.specs.Reasons.{Comes}
 use Rattle.state.specs.declared.State.{State}
 use Rattle.state.specs.Machine.{moved_of, arrived_of}

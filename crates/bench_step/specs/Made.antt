@@ -1,7 +1,6 @@
 -- PUBLIC CALLS, one number each
-use Rattle.std.specs.Prelude.{◌≡◌, true, false, ℕ, ◌-◌, ltb}
+use Rattle.std.specs.Prelude.{◌≡◌, true, false, ℕ, ◌-◌, ltb, if◌then◌else◌}
 use mathlib.Core.List.{List, foldl}
-use Rattle.ground.specs.Tests.{if◌then◌else◌}
 use Rattle.state.specs.declared.State.{State}
 use Rattle.calls.specs.Arrive.{arrive_of}
 use Rattle.calls.specs.Step.{step_of}

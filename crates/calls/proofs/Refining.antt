@@ -1,4 +1,5 @@
 -- Each call is the rules' call, seen through the view
+use Rattle.std.specs.Prelude.{if◌then◌else◌}
 use mathlib.Core.Path.{◌≡◌, refl, sym, ◌∙◌, ap, subst}
 use mathlib.Core.List.{List, ◌++◌}
 use Prim.Native.Nat.{ℕ, ◌-◌}
@@ -8,7 +9,6 @@ use Rattle.rules.specs.declared.Answer.TheVariants.{Done}
 use Rattle.state.specs.declared.State.{State}
 use Rattle.rules.specs.State as Rules
 use Rattle.rules.specs.Calls as Rule
-use Rattle.ground.specs.Tests.{if◌then◌else◌}
 use Rattle.rules.specs.Answers.{is_done}
 use Rattle.rules.specs.Calls.{moving}
 use Rattle.rules.specs.Reasons.{ArriveReason, StepReason, Comes}

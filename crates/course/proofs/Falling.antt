@@ -1,4 +1,5 @@
 -- Each turn leaves less to do
+use Rattle.std.specs.Prelude.{if◌then◌else◌}
 use mathlib.Core.Path.{◌≡◌, sym, subst}
 use mathlib.Core.Bool.{Bool, true, false}
 use mathlib.Core.List.{List}
@@ -6,7 +7,7 @@ use Prim.Native.Nat.{ℕ, ◌+◌, ◌*◌, ◌-◌, ◌<◌}
 use native.Mathlib.Omega.{arith}
 use lib.Dec.{ltb, eqb}
 use lib.ListN.{length}
-use Rattle.ground.specs.Tests.{if◌then◌else◌, Says}
+use Rattle.ground.specs.Tests.{Says}
 use Rattle.ground.proofs.Tests.{ltb_says}
 use Rattle.rules.specs.Answers.{is_done}
 use Rattle.rules.proofs.Keeping.{not_both}

@@ -1,4 +1,5 @@
 -- What a turn hands out, followed by what the cursor owes after it, is what the cursor owed before
+use Rattle.std.specs.Prelude.{if◌then◌else◌}
 use mathlib.Core.Path.{◌≡◌, refl, sym, ◌∙◌, ap, subst}
 use mathlib.Core.Bool.{Bool, true, false}
 use mathlib.Core.List.{List, [], ◌∷◌, ◌++◌, map, map-append, append_assoc}
@@ -6,7 +7,7 @@ use Prim.Native.Nat.{ℕ, ◌+◌, ◌*◌, ◌≤◌, ◌<◌}
 use native.Mathlib.Omega.{arith}
 use lib.Dec.{ltb, eqb}
 use lib.ListN.{length, drop}
-use Rattle.ground.specs.Tests.{if◌then◌else◌, Says}
+use Rattle.ground.specs.Tests.{Says}
 use Rattle.ground.proofs.Tests.{eqb_says, ltb_says, of_true, of_false}
 use Rattle.rules.specs.declared.Answer.{Answer}
 use Rattle.rules.specs.declared.Answer.TheVariants.{Done, HorizonNotLater}

@@ -1,4 +1,5 @@
 -- What a turn hands back is what its definition says
+use Rattle.std.specs.Prelude.{if◌then◌else◌}
 use mathlib.Core.Path.{◌≡◌, refl, sym, ◌∙◌, ap, subst}
 use mathlib.Core.Bool.{Bool, true, false}
 use mathlib.Core.List.{List, []}
@@ -6,7 +7,6 @@ use Prim.Native.Nat.{ℕ, ◌/◌, ◌≤◌, ◌<◌}
 use native.Mathlib.Omega.{arith}
 use lib.Dec.{ltb}
 use lib.ListN.{length}
-use Rattle.ground.specs.Tests.{if◌then◌else◌}
 use Rattle.moves.proofs.Keeping.{together_of}
 use Rattle.rules.specs.Answers.{is_done}
 use Rattle.rules.specs.Admission.{admit_verdict}

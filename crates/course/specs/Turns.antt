@@ -1,6 +1,5 @@
 -- THE CURSOR AND ITS TURNS: from any cursor, the next one and what comes between
-use Rattle.std.specs.Prelude.{Bool, true, false, List, ℕ, ◌+◌, ◌*◌, leb, ltb, eqb, length}
-use Rattle.ground.specs.Tests.{if◌then◌else◌}
+use Rattle.std.specs.Prelude.{Bool, true, false, List, ℕ, ◌+◌, ◌*◌, leb, ltb, eqb, length, if◌then◌else◌}
 use Rattle.rules.specs.declared.Answer.TheVariants.{TextForm}
 use Rattle.rules.specs.Answers.{is_done}
 use Rattle.state.specs.declared.State.{State}

@@ -1,4 +1,5 @@
 -- The three demands hold of the calls
+use Rattle.std.specs.Prelude.{if◌then◌else◌}
 use mathlib.Core.Path.{◌≡◌, refl, sym, ◌∙◌, ap, subst}
 use mathlib.Core.Bool.{Bool, true, false, not}
 use mathlib.Core.Logic.{◌≢◌, inl, inr}
@@ -15,7 +16,6 @@ use Rattle.rules.specs.Run as Rule
 use Rattle.rules.specs.Calls as RuleCalls
 use Rattle.demands.specs.Demands as Say
 use Rattle.calls.specs.Run as Runs
-use Rattle.ground.specs.Tests.{if◌then◌else◌}
 use Rattle.rules.specs.Admission.{admit_verdict, admit}
 use Rattle.rules.specs.Answers.{number_of, is_done}
 use Rattle.rules.specs.Reasons.{AdmitReason, StepReason}

@@ -1,4 +1,5 @@
 -- Demand 3 of the calls: their run is the rules' run, seen through the view
+use Rattle.std.specs.Prelude.{if◌then◌else◌}
 use mathlib.Core.Path.{◌≡◌, refl, sym, ◌∙◌, ap, subst}
 use mathlib.Core.Bool.{Bool, true, false}
 use mathlib.Core.Option.{some}
@@ -13,7 +14,6 @@ use Rattle.state.specs.declared.State.{State}
 use Rattle.rules.specs.State as Rules
 use Rattle.rules.specs.Calls as Rule
 use Rattle.rules.specs.Run as Runs
-use Rattle.ground.specs.Tests.{if◌then◌else◌}
 use Rattle.rules.specs.Answers.{is_done}
 use Rattle.rules.specs.Record.{Record, read_record}
 use Rattle.rules.specs.Run.{perform, perform_all}

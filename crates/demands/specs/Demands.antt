@@ -1,7 +1,7 @@
 -- THE DEMANDS, said of the calls
-use Rattle.std.specs.Prelude.{◌≡◌, true, false, ◌≢◌, ◌⊎◌, ℕ, zero, suc, ◌/◌, length, take, drop, replicate}
+use Rattle.std.specs.Prelude.{◌≡◌, true, false, ◌≢◌, ◌⊎◌, ℕ, zero, suc, ◌/◌, length, take, drop, replicate, if◌then◌else◌}
 use mathlib.Core.List.{List, [], ◌∷◌, ◌++◌, foldl, map}
-use Rattle.ground.specs.Tests.{if◌then◌else◌, Says}
+use Rattle.ground.specs.Tests.{Says}
 use Rattle.rules.specs.Table.{Row, rows_of, table_bytes}
 use Rattle.rules.specs.State.{at}
 use Rattle.rules.specs.declared.Answer.TheVariants.{Done, NotTogether}

@@ -1,6 +1,5 @@
 -- THE DUMP, part by part
-use Rattle.std.specs.Prelude.{Bool, List, [], ◌∷◌, ◌++◌, ℕ, zero, suc, ◌+◌, ◌/◌, ◌%◌, eqb, take}
-use Rattle.ground.specs.Tests.{if◌then◌else◌}
+use Rattle.std.specs.Prelude.{Bool, List, [], ◌∷◌, ◌++◌, ℕ, zero, suc, ◌+◌, ◌/◌, ◌%◌, eqb, take, if◌then◌else◌}
 use Rattle.rules.specs.Record.{Record}
 use Rattle.text.specs.Parts.{newline, space, same}
 use Rattle.print.specs.Decimals.{decimal_of}

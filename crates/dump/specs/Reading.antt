@@ -1,7 +1,7 @@
 -- WHAT IS READ BACK, part by part
-use Rattle.std.specs.Prelude.{Bool, ◌&&◌, List, [], ◌∷◌, ◌++◌, ℕ, zero, suc, ◌+◌, ◌*◌, ◌-◌, eqb, ltb, leb, length, take, drop, replicate}
+use Rattle.std.specs.Prelude.{Bool, ◌&&◌, List, [], ◌∷◌, ◌++◌, ℕ, zero, suc, ◌+◌, ◌*◌, ◌-◌, eqb, ltb, leb, length, take, drop, replicate, if◌then◌else◌}
 use Rattle.std.proofs.Math.Option.{Option, none, some}
-use Rattle.ground.specs.Tests.{if◌then◌else◌, every}
+use Rattle.ground.specs.Tests.{every}
 use Rattle.ground.specs.Bytes.{pasted}
 use Rattle.rules.specs.Bounds.{most_tasks, most_processors, record_size, slot_count}
 use Rattle.rules.specs.Record.{Record, record_bytes}

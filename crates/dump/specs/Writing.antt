@@ -1,6 +1,6 @@
 -- WHAT IS WRITTEN, AND WHEN IT IS REFUSED
-use Rattle.std.specs.Prelude.{Bool, true, false, ◌&&◌, List, [], ◌∷◌, ℕ, zero, suc, ◌/◌, ◌%◌, eqb, ltb, leb, length, drop}
-use Rattle.ground.specs.Tests.{if◌then◌else◌, every}
+use Rattle.std.specs.Prelude.{Bool, true, false, ◌&&◌, List, [], ◌∷◌, ℕ, zero, suc, ◌/◌, ◌%◌, eqb, ltb, leb, length, drop, if◌then◌else◌}
+use Rattle.ground.specs.Tests.{every}
 use Rattle.ground.specs.Bytes.{pasted}
 use Rattle.rules.specs.Bounds.{most_tasks, most_processors, record_size}
 use Rattle.rules.specs.Record.{Record, read_record}

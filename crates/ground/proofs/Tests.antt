@@ -1,4 +1,5 @@
 -- What the tests say. A proof takes a test's value with what it says beside it, and goes by clauses.
+use Rattle.std.specs.Prelude.{if◌then◌else◌}
 use mathlib.Core.Path.{◌≡◌, refl, subst}
 use mathlib.Core.Bool.{Bool, true, false, not, ◌&&◌, ◌||◌}
 use mathlib.Core.List.{List, [], ◌∷◌}
@@ -8,7 +9,7 @@ use native.Mathlib.Omega.{arith}
 use lib.Dec.{leb, ltb, eqb, leb→le, le→leb, eqb→eq, eqb_refl, T}
 use lib.ListN.{length, get_or}
 use native.Mathlib.Decide.{ℕ_discrete}
-use Rattle.ground.specs.Tests.{if◌then◌else◌, Says, every}
+use Rattle.ground.specs.Tests.{Says, every}
 use Rattle.ground.specs.Sums.{up_from}
 
 pub leb_says : (a b : ℕ) → Says (a ≤ b) (leb a b)

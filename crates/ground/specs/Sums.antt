@@ -1,6 +1,5 @@
 -- Sums over a list. A count is a sum of ones and zeros.
-use Rattle.std.specs.Prelude.{List, [], ◌∷◌, ℕ, zero, suc, ◌+◌, eqb}
-use Rattle.ground.specs.Tests.{if◌then◌else◌}
+use Rattle.std.specs.Prelude.{List, [], ◌∷◌, ℕ, zero, suc, ◌+◌, eqb, if◌then◌else◌}
 
 -- f summed over the elements of l
 unfoldable pub sum_of : {A : Type 0} → (A → ℕ) → List A → ℕ

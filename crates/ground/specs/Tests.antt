@@ -1,11 +1,6 @@
 -- Tests that compute, and what they say
 use Rattle.std.specs.Prelude.{Bool, true, false, ◌&&◌, List, [], ◌∷◌}
 
-infix 5 if◌then◌else◌
-abbrev pub if◌then◌else◌ : {A : Type 0} → Bool → A → A → A
-if true then x else y = x
-if false then x else y = y
-
 -- a test with this value says P, or that P is false
 abbrev pub Says : Type 0 → Bool → Type 0
 Says P true = P

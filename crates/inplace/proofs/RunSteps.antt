@@ -1,4 +1,5 @@
 -- What n steps come to
+use Rattle.std.specs.Prelude.{if◌then◌else◌}
 use mathlib.Core.Path.{◌≡◌, refl, sym, ◌∙◌, ap}
 use mathlib.Core.Bool.{Bool, true, false}
 use mathlib.Core.List.{[], ◌++◌}
@@ -6,7 +7,6 @@ use Prim.Native.Nat.{ℕ, zero, suc, ◌+◌, ◌*◌, ◌/◌, ◌≤◌, ◌<�
 use native.Mathlib.Omega.{arith}
 use lib.Dec.{ltb}
 use lib.ListN.{length, length-append}
-use Rattle.ground.specs.Tests.{if◌then◌else◌}
 use Rattle.ground.proofs.Tests.{ltb_says, is_true, is_false, of_true}
 use Rattle.rules.proofs.Keeping.{not_both}
 use Rattle.ground.specs.Bytes.{le}

@@ -1,6 +1,5 @@
 -- ARRIVE: the state handed back
-use Rattle.std.specs.Prelude.{ℕ, ◌-◌}
-use Rattle.ground.specs.Tests.{if◌then◌else◌}
+use Rattle.std.specs.Prelude.{ℕ, ◌-◌, if◌then◌else◌}
 use Rattle.rules.specs.Answers.{is_done}
 use Rattle.state.specs.declared.State.{State}
 use Rattle.state.specs.Machine.{arrived_of}

@@ -1,6 +1,5 @@
 -- RUN: many steps with one horizon, as long as the horizon lies ahead and the room has 48 bytes left
-use Rattle.std.specs.Prelude.{Bool, true, false, List, [], ◌++◌, ℕ, zero, suc, ◌*◌, ◌/◌, ltb, length, drop}
-use Rattle.ground.specs.Tests.{if◌then◌else◌}
+use Rattle.std.specs.Prelude.{Bool, true, false, List, [], ◌++◌, ℕ, zero, suc, ◌*◌, ◌/◌, ltb, length, drop, if◌then◌else◌}
 use Rattle.rules.specs.Answers.{is_done}
 use Rattle.rules.specs.Record.{record_bytes}
 use Rattle.state.specs.declared.State.{State}

@@ -1,6 +1,5 @@
 -- STEP: the state handed back, and the room
-use Rattle.std.specs.Prelude.{List, ◌++◌, ℕ, length, drop}
-use Rattle.ground.specs.Tests.{if◌then◌else◌}
+use Rattle.std.specs.Prelude.{List, ◌++◌, ℕ, length, drop, if◌then◌else◌}
 use Rattle.rules.specs.Answers.{is_done}
 use Rattle.rules.specs.Record.{record_bytes}
 use Rattle.state.specs.declared.State.{State}

@@ -1,11 +1,11 @@
 -- The chunks from the first on are the output of the text
+use Rattle.std.specs.Prelude.{if◌then◌else◌}
 use mathlib.Core.Path.{◌≡◌, refl, sym, ◌∙◌, ap, subst}
 use mathlib.Core.Bool.{Bool, true, false}
 use mathlib.Core.List.{List, [], ◌++◌}
 use Prim.Native.Nat.{ℕ, zero, suc, ◌≤◌}
 use native.Mathlib.Omega.{arith}
 use lib.ListN.{length, replicate, length-replicate}
-use Rattle.ground.specs.Tests.{if◌then◌else◌}
 use Rattle.rules.proofs.Keeping.{not_both}
 use Rattle.text.specs.Puts.{Put}
 use Rattle.text.proofs.Puts.{put_part}

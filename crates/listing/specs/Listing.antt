@@ -1,6 +1,5 @@
 -- THE LISTING OF A TEXT, CHUNK BY CHUNK
-use Rattle.std.specs.Prelude.{◌≡◌, List, [], ◌++◌, ℕ, zero, suc, ◌*◌, ◌≤◌, take, replicate}
-use Rattle.ground.specs.Tests.{if◌then◌else◌}
+use Rattle.std.specs.Prelude.{◌≡◌, List, [], ◌++◌, ℕ, zero, suc, ◌*◌, ◌≤◌, take, replicate, if◌then◌else◌}
 use Rattle.rules.specs.Answers.{number_of}
 use Rattle.print.specs.Printed.{scale_line, refused_line, record_lines}
 use Rattle.output.specs.Output.{printed, output_of}

@@ -1,4 +1,5 @@
 -- What an arrival asks, and what it does
+use Rattle.std.specs.Prelude.{if◌then◌else◌}
 use mathlib.Core.Path.{◌≡◌, sym, ◌∙◌, ap}
 use mathlib.Core.Bool.{Bool, true, false}
 use Prim.Native.Nat.{ℕ, ◌+◌, ◌*◌, ◌-◌, ◌≤◌, ◌<◌}
@@ -8,7 +9,6 @@ use lib.Dec.{ltb}
 use lib.ListN.{get_or}
 use Rattle.state.specs.declared.State.{State}
 use Rattle.rules.specs.State as Rules
-use Rattle.ground.specs.Tests.{if◌then◌else◌}
 use Rattle.rules.specs.State.{on}
 use Rattle.rules.proofs.Calls.{comes_asleep}
 use Rattle.rules.specs.Reasons.{Comes}

@@ -1,4 +1,5 @@
 -- An admitted table's state at instant 0 is whole, and shows the rules' first state
+use Rattle.std.specs.Prelude.{if◌then◌else◌}
 use mathlib.Core.Path.{◌≡◌, refl, sym, ◌∙◌, ap}
 use mathlib.Core.Bool.{Bool, false}
 use mathlib.Core.Option.{Option, none, some}
@@ -23,7 +24,6 @@ use Rattle.table.specs.Rows.{row_in, padded}
 use Rattle.table.specs.Tabled.{shares_from, table_from}
 use Rattle.table.proofs.Admitted.{rows_in_table, share_in_table, order_in_table}
 use Rattle.table.proofs.Padding.{padded_take, padded_length}
-use Rattle.ground.specs.Tests.{if◌then◌else◌}
 use Rattle.state.specs.Machine.{work_of, no_slots}
 use Rattle.state.specs.View.{Sound, cond_of, cond_in, last_at, task_at, tasks_at, view}
 use Rattle.state.specs.Work.{seat}

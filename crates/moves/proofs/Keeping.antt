@@ -1,4 +1,5 @@
 -- A step and an arrival keep a state whole, and show what the rules say
+use Rattle.std.specs.Prelude.{if◌then◌else◌}
 use mathlib.Core.Path.{◌≡◌, refl, sym, ◌∙◌, ap, subst}
 use mathlib.Core.Bool.{Bool, true, false, ◌&&◌}
 use mathlib.Core.Option.{Option, none, some}
@@ -12,7 +13,6 @@ use Rattle.state.specs.declared.Jobs.{Jobs}
 use Rattle.state.specs.declared.State.{State}
 use Rattle.rules.specs.State as Rules
 use Rattle.ground.specs.Sums.{up_from}
-use Rattle.ground.specs.Tests.{if◌then◌else◌}
 use Rattle.ground.proofs.Ranges.{length_up, at_up}
 use Rattle.rules.specs.Calls.{arriving, moving}
 use Rattle.rules.specs.Planes.{end_of, falling, shares_of, opened}

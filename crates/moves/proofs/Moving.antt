@@ -1,4 +1,5 @@
 -- What a step asks at the next instant of an open plane, and what it does there
+use Rattle.std.specs.Prelude.{if◌then◌else◌}
 use mathlib.Core.Path.{◌≡◌, sym, ◌∙◌, ap}
 use mathlib.Core.Bool.{true}
 use mathlib.Core.Option.{none, some}
@@ -10,7 +11,6 @@ use lib.Dec.{lit≤}
 use Rattle.table.specs.declared.Table.{Table}
 use Rattle.state.specs.declared.State.{State}
 use Rattle.rules.specs.State as Rules
-use Rattle.ground.specs.Tests.{if◌then◌else◌}
 use Rattle.rules.specs.State.{at, on}
 use Rattle.rules.proofs.Calls.{open_parts, next_is}
 use Rattle.rules.proofs.Keeping.{Running, running_stands}

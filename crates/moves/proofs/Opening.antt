@@ -1,4 +1,5 @@
 -- The opened state is whole too, and what the code asks of it
+use Rattle.std.specs.Prelude.{if◌then◌else◌}
 use mathlib.Core.Path.{◌≡◌, refl, sym, ◌∙◌, ap, subst}
 use mathlib.Core.Bool.{Bool, true, false}
 use mathlib.Core.Option.{Option, none, some}
@@ -16,7 +17,6 @@ use Rattle.plane.specs.Rows as Cols
 use Rattle.plane.specs.Rows.{rows}
 use Rattle.plane.proofs.Rows.{end_of_rows}
 use Rattle.state.specs.Work.{Work, enter_all}
-use Rattle.ground.specs.Tests.{if◌then◌else◌}
 use Rattle.rules.specs.Planes.{end_of, open_tasks, opened}
 use Rattle.rules.specs.Scale.{fits}
 use Rattle.rules.specs.State.{Task, at, short, is_awake, last_of}

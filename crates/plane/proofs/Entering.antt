@@ -1,4 +1,5 @@
 -- The loop of an opening: what is left to enter is all there was to enter
+use Rattle.std.specs.Prelude.{if◌then◌else◌}
 use mathlib.Core.Path.{◌≡◌, refl, sym, ◌∙◌, ap, subst}
 use mathlib.Core.Bool.{Bool, true, false}
 use mathlib.Core.List.{List, foldl}
@@ -8,7 +9,6 @@ use native.Mathlib.Omega.{arith}
 use lib.Dec.{ltb}
 use lib.ListN.{length, get_or, set, take, drop, length-set}
 use lib.Seq.{drop-cons, drop-length, get_or-take, length-take-le}
-use Rattle.ground.specs.Tests.{if◌then◌else◌}
 use Rattle.queue.specs.declared.Queue.{Queue}
 use Rattle.queue.specs.Heap.{rise}
 use Rattle.queue.specs.Queues.{entry, blank, earlier, entries, push_of}

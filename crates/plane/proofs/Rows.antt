@@ -1,4 +1,5 @@
 -- The loops over the rows of the table: a plane's end, and its closing
+use Rattle.std.specs.Prelude.{if◌then◌else◌}
 use mathlib.Core.Path.{◌≡◌, refl, sym, ◌∙◌, ap}
 use mathlib.Core.Bool.{Bool, true, false, false≢true, ◌&&◌}
 use mathlib.Core.List.{List, [], ◌∷◌, foldl}
@@ -7,7 +8,6 @@ use native.Mathlib.Omega.{arith}
 use lib.Dec.{eqb}
 use lib.ListN.{get_or, set}
 use Rattle.ground.specs.Sums.{up_from}
-use Rattle.ground.specs.Tests.{if◌then◌else◌}
 use Rattle.ground.proofs.Times.{up_turn, up_end}
 use Rattle.table.specs.declared.Table.{Table}
 use Rattle.state.specs.declared.Jobs.{Jobs}

@@ -1,4 +1,5 @@
 -- What is written reads back
+use Rattle.std.specs.Prelude.{if◌then◌else◌}
 use Prim.Native.Nat.{ℕ, zero, suc, ◌+◌, ◌-◌, ◌*◌, ◌/◌, ◌%◌, ◌≤◌, ◌<◌}
 use mathlib.Core.Path.{◌≡◌, refl, ap, ◌∙◌}
 use mathlib.Core.Bool.{Bool, true, false, ◌&&◌}
@@ -7,7 +8,7 @@ use native.Mathlib.Nat.{mod-lt, mod-add-div}
 use native.Mathlib.Omega.{arith}
 use borrow.Author.Tests.{le-leb, ne_eqb}
 use lib.Dec.{ltb}
-use Rattle.ground.specs.Tests.{if◌then◌else◌, every, Says}
+use Rattle.ground.specs.Tests.{every, Says}
 use Rattle.ground.proofs.Tests.{ltb_says}
 use Rattle.text.specs.declared.Numeral.TheVariants.{Value}
 use Rattle.text.specs.Numbers.{most_number, is_digit, plain, spelled_after, spelled, numeral_of}

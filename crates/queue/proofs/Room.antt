@@ -1,4 +1,5 @@
 -- A queue of distinct tasks among 1 .. n, one absent, has room
+use Rattle.std.specs.Prelude.{if◌then◌else◌}
 use Prim.Native.Nat.{ℕ, zero, suc, ◌+◌, ◌≤◌, ◌<◌}
 use mathlib.Core.Path.{◌≡◌, refl, sym, ap, ◌∙◌}
 use mathlib.Core.List.{List, [], ◌∷◌}
@@ -8,7 +9,6 @@ use native.Mathlib.Omega.{arith}
 use borrow.Author.Tests.{eq-eqb, ne_eqb}
 use lib.Dec.{eqb}
 use lib.ListN.{length, get_or}
-use Rattle.ground.specs.Tests.{if◌then◌else◌}
 use Rattle.ground.specs.Sums.{sum_of, up_from}
 use Rattle.ground.proofs.Sums.{sum_of_mono, sum_of_add, sum_of_const}
 use Rattle.queue.specs.Queues.{blank, held, find, key_in, one, Good}

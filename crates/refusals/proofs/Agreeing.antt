@@ -1,4 +1,5 @@
 -- The refusals are the rules', seen through the view
+use Rattle.std.specs.Prelude.{if◌then◌else◌}
 use mathlib.Core.Path.{◌≡◌, refl, sym, ◌∙◌, ap}
 use mathlib.Core.Bool.{Bool, true, false, not}
 use Prim.Native.Nat.{ℕ, ◌-◌, ◌≤◌, ◌<◌}
@@ -8,7 +9,7 @@ use Rattle.rules.specs.declared.Answer.TheVariants.{Done, TaskNumber, BetweenTic
 use Rattle.state.specs.declared.State.{State}
 use Rattle.rules.specs.State as Rules
 use Rattle.rules.specs.Calls as Rule
-use Rattle.ground.specs.Tests.{if◌then◌else◌, Says}
+use Rattle.ground.specs.Tests.{Says}
 use Rattle.ground.proofs.Tests.{leb_says, and_says}
 use Rattle.rules.specs.State.{at}
 use Rattle.state.specs.Machine.{tick_at}

@@ -1,4 +1,5 @@
 -- The refusals of an arrival, one by one
+use Rattle.std.specs.Prelude.{if◌then◌else◌}
 use mathlib.Core.Path.{◌≡◌, sym, ◌∙◌, ap, subst}
 use mathlib.Core.Bool.{Bool, true, false}
 use mathlib.Core.Logic.{◌≢◌}
@@ -8,7 +9,7 @@ use lib.Dec.{leb, ltb, eqb}
 use lib.ListN.{get_or}
 use Rattle.rules.specs.declared.Answer.{Answer}
 use Rattle.rules.specs.declared.Answer.TheVariants.{Done, TaskNumber, BetweenTicks, TooSoon}
-use Rattle.ground.specs.Tests.{if◌then◌else◌, Says}
+use Rattle.ground.specs.Tests.{Says}
 use Rattle.ground.proofs.Tests.{leb_says, eqb_says, and_says, is_true, is_false}
 use native.Mathlib.Nat.{le_of_mul-le-mul_right}
 use native.Mathlib.Omega.{arith}

@@ -1,10 +1,10 @@
 -- The refusals of a step, one by one
+use Rattle.std.specs.Prelude.{if◌then◌else◌}
 use mathlib.Core.Path.{◌≡◌, sym, ◌∙◌, ap, subst}
 use mathlib.Core.Bool.{true, false}
 use Prim.Native.Nat.{ℕ, ◌*◌, ◌≤◌, ◌<◌}
 use native.Mathlib.Omega.{arith}
 use lib.Dec.{leb, ltb}
-use Rattle.ground.specs.Tests.{if◌then◌else◌}
 use Rattle.ground.proofs.Tests.{leb_says, ltb_says, is_true, is_false}
 use Rattle.rules.specs.declared.Answer.{Answer}
 use Rattle.rules.specs.declared.Answer.TheVariants.{Done, HorizonPastClock, HorizonNotLater, RoomTooShort, NotTogether}

@@ -1,6 +1,5 @@
 -- THE REFUSALS OF STEP AND RUN, as the code gives them
-use Rattle.std.specs.Prelude.{ℕ, ◌*◌, ◌<◌, ◌≤◌, leb, ltb}
-use Rattle.ground.specs.Tests.{if◌then◌else◌}
+use Rattle.std.specs.Prelude.{ℕ, ◌*◌, ◌<◌, ◌≤◌, leb, ltb, if◌then◌else◌}
 use Rattle.rules.specs.declared.Answer.{Answer}
 use Rattle.rules.specs.declared.Answer.TheVariants.{Done, HorizonPastClock, HorizonNotLater, RoomTooShort, NotTogether}
 use Rattle.state.specs.declared.State.{State}

@@ -1,4 +1,5 @@
 -- Any calls on the struct are the calls on the state
+use Rattle.std.specs.Prelude.{if◌then◌else◌}
 use mathlib.Core.Path.{◌≡◌, refl, sym, ap, ◌∙◌, subst}
 use mathlib.Core.List.{List, [], ◌∷◌, ◌++◌, foldl}
 use mathlib.Core.Logic.{◌≢◌}
@@ -6,7 +7,6 @@ use Prim.Native.Nat.{ℕ, suc, ◌*◌, ◌≤◌, ◌<◌}
 use native.Mathlib.Omega.{arith}
 use lib.Dec.{eqb}
 use lib.ListN.{length}
-use Rattle.ground.specs.Tests.{if◌then◌else◌}
 use Rattle.rules.specs.declared.Answer.{Answer}
 use Rattle.rules.specs.declared.Answer.TheVariants.{Done}
 use Rattle.rules.specs.Answers.{number_of}

@@ -1,11 +1,11 @@
 -- The struct and the state stand for one another
+use Rattle.std.specs.Prelude.{if◌then◌else◌}
 use mathlib.Core.Path.{◌≡◌, refl, sym, ap, ◌∙◌}
 use mathlib.Core.Bool.{Bool, true, false, ◌&&◌}
 use mathlib.Core.List.{List, map}
 use Prim.Native.Nat.{ℕ, ◌+◌, ◌-◌}
 use lib.Dec.{leb, ltb}
 use lib.ListN.{get_or}
-use Rattle.ground.specs.Tests.{if◌then◌else◌}
 use Rattle.rules.specs.Answers.{is_done}
 use Rattle.flags.specs.Flags.{bit, flag, flags_ok}
 use Rattle.flags.proofs.Flags.{both, flag_bit, flags_bits, bit_flag, bits_flags, bits_ok}

@@ -1,8 +1,7 @@
 -- THE CALLS ON THE STRUCT: an answer is its number; a struct with a byte above 1 for a flag does not hold together
-use Rattle.std.specs.Prelude.{◌≡◌, Bool, true, false, ◌&&◌, ◌≢◌, ◌↔◌, ℕ, suc, ◌+◌, ◌*◌, ◌-◌, ◌≤◌, ◌<◌, eqb, length, get_or}
+use Rattle.std.specs.Prelude.{◌≡◌, Bool, true, false, ◌&&◌, ◌≢◌, ◌↔◌, ℕ, suc, ◌+◌, ◌*◌, ◌-◌, ◌≤◌, ◌<◌, eqb, length, get_or, if◌then◌else◌}
 use mathlib.Core.List.{List, [], ◌∷◌, ◌++◌, foldl}
 use Rattle.std.proofs.Math.Option.{some}
-use Rattle.ground.specs.Tests.{if◌then◌else◌}
 use Rattle.rules.specs.declared.Answer.TheVariants.{NotTogether}
 use Rattle.rules.specs.Answers.{number_of}
 use Rattle.rules.specs.Bounds.{clock, record_size}

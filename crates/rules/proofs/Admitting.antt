@@ -1,4 +1,5 @@
 -- What admission's tests say of the rows
+use Rattle.std.specs.Prelude.{if◌then◌else◌}
 use mathlib.Core.Path.{◌≡◌, refl}
 use mathlib.Core.Bool.{Bool, true, false, not, ◌&&◌}
 use mathlib.Core.List.{List, [], ◌∷◌}
@@ -9,7 +10,7 @@ use lib.ListN.{length, get_or}
 use Rattle.rules.specs.Bounds.{most_scale, most_ticks}
 use Rattle.rules.specs.declared.Answer.TheVariants.{Done, RowRange, RowExecution, Scale, Shares}
 use Rattle.ground.specs.Sums.{sum_of}
-use Rattle.ground.specs.Tests.{if◌then◌else◌, Says}
+use Rattle.ground.specs.Tests.{Says}
 use Rattle.ground.proofs.Tests.{leb_says, ltb_says, and_says, says_as}
 use Rattle.rules.specs.Admission.{fault_of, Verdict, plain, fault_from, size_verdict, or_else, rows_verdict}
 use Rattle.rules.specs.Answers.{is_done}

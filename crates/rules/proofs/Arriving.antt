@@ -1,4 +1,5 @@
 -- An arrival at a whole tick, into a closed or an open plane, keeps a state together
+use Rattle.std.specs.Prelude.{if◌then◌else◌}
 use mathlib.Core.Path.{◌≡◌, refl, sym, ◌∙◌, ap, subst}
 use mathlib.Core.Bool.{true}
 use mathlib.Core.Option.{Option, none, some, some-injective}
@@ -12,7 +13,6 @@ use lib.Dec.{ltb, eqb}
 use lib.ListN.{length, length-set}
 use lib.Seq.{get_or-set_same, get_or-set_other}
 use Rattle.ground.specs.Sums.{sum_of, up_from, same}
-use Rattle.ground.specs.Tests.{if◌then◌else◌}
 use Rattle.ground.proofs.Sums.{sum_of_set, sum_of_at, sum_of_const, sum_of_add, sum_of_none}
 use Rattle.ground.proofs.Tests.{ltb_says, eqb_says, if_by}
 use Rattle.ground.proofs.Times.{up_length, same_yes, same_no, up_once, by_same}

@@ -1,4 +1,5 @@
 -- The books: what each job has run, read off the records, and what it has left
+use Rattle.std.specs.Prelude.{if◌then◌else◌}
 use mathlib.Core.Path.{◌≡◌, refl, sym, ◌∙◌, ap, subst}
 use mathlib.Core.Option.{Option, none, some}
 use mathlib.Core.List.{List, [], ◌∷◌, ◌++◌}
@@ -9,7 +10,6 @@ use native.Mathlib.Omega.{arith}
 use lib.ListN.{length}
 use Rattle.ground.specs.Bytes.{le}
 use Rattle.ground.specs.Sums.{sum_of, times}
-use Rattle.ground.specs.Tests.{if◌then◌else◌}
 use Rattle.ground.proofs.Sums.{sum_of_append}
 use Rattle.rules.specs.Calls.{wake}
 use Rattle.rules.specs.History.{ran_in, ran, Follows}

@@ -1,9 +1,9 @@
 -- Definitions that go by cases, as functions of what they distinguish
+use Rattle.std.specs.Prelude.{if◌then◌else◌}
 use mathlib.Core.Option.{Option, none, some, get_or}
 use mathlib.Core.List.{List}
 use Prim.Native.Nat.{ℕ, ◌+◌, ◌*◌, ◌-◌}
 use lib.Dec.{eqb}
-use Rattle.ground.specs.Tests.{if◌then◌else◌}
 use Rattle.rules.specs.State.{Cond, asleep, resting, running, waiting, Task, State, at, become, amount, proc, tick_of}
 use Rattle.rules.specs.Keys.{Best, nope, best}
 use Rattle.rules.specs.Planes.{end_of, open_tasks}

@@ -1,4 +1,5 @@
 -- Plane ends, read off the arrivals: they rise, and later arrivals leave the earlier ones alone
+use Rattle.std.specs.Prelude.{if◌then◌else◌}
 use mathlib.Core.Path.{◌≡◌, refl, sym, ◌∙◌}
 use mathlib.Core.Bool.{Bool, true, false, ◌&&◌}
 use mathlib.Core.Option.{Option, none, some}
@@ -10,7 +11,6 @@ use native.Mathlib.Decide.{dec_le}
 use native.Mathlib.Omega.{arith}
 use lib.Dec.{leb, ltb, eqb}
 use lib.ListN.{length, get_or}
-use Rattle.ground.specs.Tests.{if◌then◌else◌}
 use Rattle.ground.proofs.Tests.{leb_says, ltb_says, is_false, if_by}
 use Rattle.rules.specs.History.{EndsAt, came_by, limit_by, limits_by, earliest, plane_end}
 use Rattle.rules.specs.Planes.{limit, end_of}

@@ -1,4 +1,5 @@
 -- All B events, then all C events: what a plane keeps through them
+use Rattle.std.specs.Prelude.{if◌then◌else◌}
 use mathlib.Core.Path.{◌≡◌, refl, sym, ◌∙◌, ap}
 use mathlib.Core.Bool.{Bool, true, false}
 use mathlib.Core.Option.{Option, none, some}
@@ -10,7 +11,7 @@ use native.Mathlib.Omega.{arith}
 use lib.Dec.{leb, eqb}
 use lib.ListN.{length}
 use Rattle.ground.specs.Sums.{sum_of}
-use Rattle.ground.specs.Tests.{if◌then◌else◌, Says}
+use Rattle.ground.specs.Tests.{Says}
 use Rattle.ground.proofs.Sums.{sum_of_mono, sum_of_at, sum_of_none}
 use Rattle.ground.proofs.Tests.{leb_says, eqb_says, if_by}
 use Rattle.rules.specs.Events.{give, seize, b_event, b_events, c_events_in, c_events, events}

@@ -1,4 +1,5 @@
 -- P1 to P10, and the figures beside them, hold of the rules
+use Rattle.std.specs.Prelude.{if◌then◌else◌}
 use mathlib.Core.Path.{◌≡◌, refl, sym, ◌∙◌, ap}
 use mathlib.Core.List.{List, [], ◌∷◌}
 use Prim.Native.Nat.{ℕ, zero, suc, ◌+◌, ◌*◌, ◌-◌, ◌≤◌, ◌<◌, min}
@@ -9,7 +10,6 @@ use lib.ListN.{length}
 use Rattle.rules.specs.declared.Answer.{Answer}
 use Rattle.rules.specs.declared.Answer.TheVariants.{Done, RowExecution, Scale, TooSoon}
 use Rattle.ground.specs.Sums.{sum_of}
-use Rattle.ground.specs.Tests.{if◌then◌else◌}
 use Rattle.rules.specs.Admission.{Verdict, admit}
 use Rattle.rules.specs.Answered.{admits}
 use Rattle.rules.specs.Answers.{number_of, is_done}

@@ -1,4 +1,5 @@
 -- The test `holds` says that a state holds together, clause by clause
+use Rattle.std.specs.Prelude.{if◌then◌else◌}
 use mathlib.Core.Path.{◌≡◌, refl, sym, ◌∙◌, subst, ap}
 use mathlib.Core.Bool.{Bool, true, false, not, ◌&&◌}
 use mathlib.Core.Option.{Option, none, some, some-injective}
@@ -12,7 +13,7 @@ use lib.Dec.{leb, ltb, eqb}
 use lib.ListN.{length, length-map}
 use Rattle.ground.specs.Bytes.{le}
 use Rattle.ground.specs.Sums.{sum_of}
-use Rattle.ground.specs.Tests.{if◌then◌else◌, Says, every}
+use Rattle.ground.specs.Tests.{Says, every}
 use Rattle.ground.proofs.Sums.{sum_of_cong, sum_of_none, sum_of_map}
 use Rattle.ground.proofs.Tests.{leb_says, ltb_says, eqb_says, and_says, or_says, says_as, if_by, every_says, every_up_says, of_true, is_true}
 use Rattle.ground.proofs.Times.{same_no}

@@ -1,4 +1,5 @@
 -- What is true of every job, after any calls
+use Rattle.std.specs.Prelude.{if◌then◌else◌}
 use mathlib.Core.Path.{◌≡◌, refl, sym, ◌∙◌, ap, subst}
 use mathlib.Core.Bool.{Bool, true, false, ◌&&◌}
 use mathlib.Core.Option
@@ -14,7 +15,7 @@ use lib.ListN.{length, get_or, drop, length-map}
 use Rattle.rules.specs.declared.Answer.{Answer}
 use Rattle.rules.specs.declared.Answer.TheVariants.{Done, Processors, TableLength, RowRange, RowExecution, Scale, Shares, TaskNumber, BetweenTicks, TooSoon, HorizonPastClock, HorizonNotLater, RoomTooShort, NotTogether, TextForm}
 use Rattle.ground.specs.Sums.{times}
-use Rattle.ground.specs.Tests.{if◌then◌else◌, Says}
+use Rattle.ground.specs.Tests.{Says}
 use Rattle.ground.proofs.Tests.{leb_says, ltb_says, eqb_says, is_true, is_false}
 use Rattle.rules.specs.Answers.{is_done}
 use Rattle.rules.specs.Calls.{lowest_idle, arrive_in, arriving, arrive_answer, arrive, after, moving, step_answer, step}

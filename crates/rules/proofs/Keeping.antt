@@ -1,4 +1,5 @@
 -- Opening, running on and closing keep a state together
+use Rattle.std.specs.Prelude.{if◌then◌else◌}
 use mathlib.Core.Path.{◌≡◌, refl, sym, ◌∙◌, ap}
 use mathlib.Core.Bool.{Bool, true, false}
 use mathlib.Core.Logic.{◌≢◌}
@@ -9,7 +10,7 @@ use native.Mathlib.Omega.{arith}
 use lib.Dec.{eqb}
 use lib.ListN.{length, length-map, get_or-map}
 use Rattle.ground.specs.Bytes.{le}
-use Rattle.ground.specs.Tests.{if◌then◌else◌, Says}
+use Rattle.ground.specs.Tests.{Says}
 use Rattle.ground.proofs.Sums.{sum_of_none, sum_of_places}
 use Rattle.ground.proofs.Tests.{eqb_says, is_false}
 use Rattle.rules.specs.Events.{spend, advance, events}

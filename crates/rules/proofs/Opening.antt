@@ -1,4 +1,5 @@
 -- Opening a plane: the awake tasks enter in an order that falls by share, the first m run, and the plane stands
+use Rattle.std.specs.Prelude.{if◌then◌else◌}
 use mathlib.Core.Path.{◌≡◌, refl, sym, ◌∙◌, ap}
 use mathlib.Core.Bool.{Bool, true, false}
 use mathlib.Core.Logic.{◌≢◌, inl, inr}
@@ -10,7 +11,6 @@ use native.Mathlib.Omega.{arith}
 use lib.Dec.{ltb}
 use lib.ListN.{length, get_or, length-map, get_or-map, get_or-eq_default}
 use Rattle.ground.specs.Sums.{sum_of, times}
-use Rattle.ground.specs.Tests.{if◌then◌else◌}
 use Rattle.ground.proofs.Sums.{sum_of_at, sum_of_scale, sum_of_none, sum_of_places}
 use Rattle.ground.proofs.Tests.{ltb_says, if_by}
 use Rattle.ground.proofs.Times.{same_yes, same_no, times_place, by_same, times_cons}

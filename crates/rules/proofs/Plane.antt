@@ -1,4 +1,5 @@
 -- The invariant of an open plane, kept by time passing and by the events
+use Rattle.std.specs.Prelude.{if◌then◌else◌}
 use mathlib.Core.Path.{◌≡◌, refl, ◌∙◌, ap}
 use mathlib.Core.Bool.{Bool, true, false}
 use mathlib.Core.Option.{none, some}
@@ -11,7 +12,7 @@ use native.Mathlib.Omega.{arith}
 use lib.Dec.{eqb}
 use lib.ListN.{length}
 use Rattle.ground.specs.Sums.{sum_of}
-use Rattle.ground.specs.Tests.{if◌then◌else◌, Says}
+use Rattle.ground.specs.Tests.{Says}
 use Rattle.ground.proofs.Sums.{sum_of_mono, sum_of_at, sum_of_scale, sum_of_none}
 use Rattle.ground.proofs.Tests.{eqb_says}
 use Rattle.rules.specs.Keys.{run_key, wait_key, Best, nope, best}

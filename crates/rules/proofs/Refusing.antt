@@ -1,4 +1,5 @@
 -- Each call gives each answer exactly when document 01 says so
+use Rattle.std.specs.Prelude.{if◌then◌else◌}
 use mathlib.Core.Path.{◌≡◌, refl, ◌∙◌, ap}
 use mathlib.Core.Bool.{Bool, true, false, not}
 use mathlib.Core.List.{List, [], ◌∷◌}
@@ -11,7 +12,7 @@ use Rattle.rules.specs.Bounds.{clock, most_scale}
 use Rattle.rules.specs.declared.Answer.{Answer}
 use Rattle.rules.specs.declared.Answer.TheVariants.{Done, Processors, TableLength, RowRange, RowExecution, Scale, Shares, TaskNumber, BetweenTicks, TooSoon, HorizonPastClock, HorizonNotLater, RoomTooShort, NotTogether, TextForm}
 use Rattle.ground.specs.Sums.{sum_of}
-use Rattle.ground.specs.Tests.{if◌then◌else◌, Says}
+use Rattle.ground.specs.Tests.{Says}
 use Rattle.ground.proofs.Tests.{leb_says, ltb_says, eqb_says, and_says, says_as, is_true, is_false}
 use Rattle.rules.specs.Admission.{processors_ok, length_ok, fault_of, Verdict, plain, fault_from, size_verdict, or_else, rows_verdict, admit_verdict}
 use Rattle.rules.specs.Answers.{is_done}

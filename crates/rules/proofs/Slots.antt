@@ -1,4 +1,5 @@
 -- The record's slots: how many processors run a task, read off the record
+use Rattle.std.specs.Prelude.{if◌then◌else◌}
 use mathlib.Core.Path.{◌≡◌, refl, ◌∙◌}
 use mathlib.Core.Bool.{Bool, true, false}
 use mathlib.Core.Logic.{◌⊎◌, inl, inr}
@@ -9,7 +10,7 @@ use native.Mathlib.Omega.{arith}
 use lib.Dec.{eqb}
 use lib.ListN.{replicate}
 use Rattle.ground.specs.Sums.{sum_of, up_from, same, times}
-use Rattle.ground.specs.Tests.{if◌then◌else◌, Says}
+use Rattle.ground.specs.Tests.{Says}
 use Rattle.ground.proofs.Sums.{sum_of_append, sum_of_at}
 use Rattle.ground.proofs.Tests.{eqb_says}
 use Rattle.ground.proofs.Times.{same_no, same_swap, up_once, by_same}

@@ -1,4 +1,5 @@
 -- From what holding together says to what the events need
+use Rattle.std.specs.Prelude.{if◌then◌else◌}
 use mathlib.Core.Path.{◌≡◌, refl, ◌∙◌, ap}
 use mathlib.Core.Bool.{Bool, true, false}
 use mathlib.Core.List.{List, [], ◌∷◌, map}
@@ -7,7 +8,6 @@ use native.Mathlib.Decide.{dec_lt}
 use native.Mathlib.Omega.{arith}
 use lib.ListN.{length, get_or, length-map, get_or-map, get_or-eq_default}
 use Rattle.ground.specs.Sums.{sum_of, up_from}
-use Rattle.ground.specs.Tests.{if◌then◌else◌}
 use Rattle.ground.proofs.Sums.{sum_of_mono, sum_of_const, sum_of_add, sum_of_none}
 use Rattle.ground.proofs.Times.{up_length}
 use Rattle.rules.specs.State.{Task, no_row, nobody, at, short, is_awake, proc, runs, on, awake_share}

@@ -1,4 +1,5 @@
 -- Time passing in an open plane, and the instant of the next event
+use Rattle.std.specs.Prelude.{if◌then◌else◌}
 use mathlib.Core.Path.{◌≡◌, refl, ap}
 use mathlib.Core.Option.{Option, none, some}
 use mathlib.Core.Logic.{◌⊎◌, inl, inr}
@@ -8,7 +9,6 @@ use native.Mathlib.Decide.{dec_lt}
 use native.Mathlib.Omega.{arith}
 use lib.ListN.{length, length-map, get_or-map}
 use Rattle.ground.specs.Sums.{sum_of}
-use Rattle.ground.specs.Tests.{if◌then◌else◌}
 use Rattle.ground.proofs.Sums.{sum_of_mono, sum_of_at, sum_of_scale, sum_of_add, sum_of_cong}
 use Rattle.rules.specs.Events.{spend, advance, or_key, next_at}
 use Rattle.rules.specs.Keys.{run_key, wait_key, Best, nope, best, least}

@@ -1,6 +1,5 @@
 -- ADMIT: "table bytes and m give a state at instant 0"
-use Rattle.std.specs.Prelude.{Bool, true, false, not, ◌&&◌, List, [], ◌∷◌, ℕ, suc, ◌*◌, ◌%◌, leb, ltb, eqb, length}
-use Rattle.ground.specs.Tests.{if◌then◌else◌}
+use Rattle.std.specs.Prelude.{Bool, true, false, not, ◌&&◌, List, [], ◌∷◌, ℕ, suc, ◌*◌, ◌%◌, leb, ltb, eqb, length, if◌then◌else◌}
 use Rattle.rules.specs.Bounds.{most_processors, most_scale, most_tasks, row_size}
 use Rattle.rules.specs.declared.Answer.{Answer}
 use Rattle.rules.specs.declared.Answer.TheVariants.{Done, Processors, TableLength, RowRange, RowExecution, Scale, Shares}

@@ -1,7 +1,6 @@
 -- EVENTS: what happens at an instant inside a plane
-use Rattle.std.specs.Prelude.{true, false, ℕ, zero, suc, ◌-◌, min, leb, eqb}
+use Rattle.std.specs.Prelude.{true, false, ℕ, zero, suc, ◌-◌, min, leb, eqb, if◌then◌else◌}
 use mathlib.Core.List.{List, map, foldl}
-use Rattle.ground.specs.Tests.{if◌then◌else◌}
 use Rattle.ground.specs.Sums.{sum_of}
 use Rattle.rules.specs.State.{Cond, asleep, resting, running, waiting, Task, at, be, become, places, amount, proc, waits}
 use Rattle.rules.specs.Keys.{Best, nope, best, least, run_key, wait_key}

@@ -1,8 +1,7 @@
 -- WHAT IS READ OFF THE RECORDS AND THE ARRIVALS
-use Rattle.std.specs.Prelude.{◌≡◌, ◌&&◌, ◌⊎◌, List, [], ◌∷◌, ℕ, zero, suc, ◌+◌, ◌*◌, ◌-◌, ◌≤◌, ◌<◌, min, max, leb, ltb, eqb, get_or}
+use Rattle.std.specs.Prelude.{◌≡◌, ◌&&◌, ◌⊎◌, List, [], ◌∷◌, ℕ, zero, suc, ◌+◌, ◌*◌, ◌-◌, ◌≤◌, ◌<◌, min, max, leb, ltb, eqb, get_or, if◌then◌else◌}
 use Rattle.std.proofs.Math.Option.{Option, none, some}
 use Rattle.rules.specs.State.{no_row}
-use Rattle.ground.specs.Tests.{if◌then◌else◌}
 use Rattle.ground.specs.Sums.{sum_of, times}
 use Rattle.rules.specs.Table.{Row, shorter}
 use Rattle.rules.specs.Record.{Record}

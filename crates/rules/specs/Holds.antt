@@ -1,7 +1,7 @@
 -- A STATE THAT HOLDS TOGETHER
-use Rattle.std.specs.Prelude.{Bool, true, not, ◌&&◌, ◌||◌, List, map, ℕ, ◌+◌, ◌*◌, ◌-◌, leb, ltb, eqb, length}
+use Rattle.std.specs.Prelude.{Bool, true, not, ◌&&◌, ◌||◌, List, map, ℕ, ◌+◌, ◌*◌, ◌-◌, leb, ltb, eqb, length, if◌then◌else◌}
 use Rattle.std.proofs.Math.Option.{Option, none, some}
-use Rattle.ground.specs.Tests.{if◌then◌else◌, every}
+use Rattle.ground.specs.Tests.{every}
 use Rattle.ground.specs.Sums.{sum_of, up_from}
 use Rattle.rules.specs.Bounds.{clock, most_tasks}
 use Rattle.rules.specs.Answers.{is_done}

@@ -1,7 +1,6 @@
 -- KEYS, and the task with the least one
 use Rattle.std.proofs.Math.Option.{Option, none, some}
-use Rattle.std.specs.Prelude.{List, [], ◌∷◌, ℕ, suc, ◌+◌, ◌-◌, leb}
-use Rattle.ground.specs.Tests.{if◌then◌else◌}
+use Rattle.std.specs.Prelude.{List, [], ◌∷◌, ℕ, suc, ◌+◌, ◌-◌, leb, if◌then◌else◌}
 use Rattle.rules.specs.State.{asleep, resting, running, waiting, Task}
 
 -- "A running task's key is the present plus its amount"

@@ -1,7 +1,6 @@
 -- A RUN: any list of calls, refused ones among them, each on the state that the last one handed back
 use mathlib.Core.List.{List, [], ◌∷◌, ◌++◌, foldl}
-use Rattle.std.specs.Prelude.{ℕ}
-use Rattle.ground.specs.Tests.{if◌then◌else◌}
+use Rattle.std.specs.Prelude.{ℕ, if◌then◌else◌}
 use Rattle.rules.specs.Answers.{is_done}
 use Rattle.rules.specs.Admission.{admit}
 use Rattle.rules.specs.State.{State, tick_of}

@@ -1,8 +1,7 @@
 -- CONDITIONS, TASKS AND STATES. Instants and amounts are in sub-ticks; what a name calls a tick is in ticks.
-use Rattle.std.specs.Prelude.{Bool, true, false, List, [], map, ℕ, ◌+◌, ◌/◌, ◌%◌, max, eqb, length, get_or, set}
+use Rattle.std.specs.Prelude.{Bool, true, false, List, [], map, ℕ, ◌+◌, ◌/◌, ◌%◌, max, eqb, length, get_or, set, if◌then◌else◌}
 use Rattle.std.proofs.Math.Option
 use Rattle.std.proofs.Math.Option.{Option, none, some}
-use Rattle.ground.specs.Tests.{if◌then◌else◌}
 use Rattle.ground.specs.Sums.{up_from}
 use Rattle.rules.specs.Table.{Row, shorter}
 use Rattle.rules.specs.Scale.{scale_of, share_of}

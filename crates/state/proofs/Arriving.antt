@@ -1,4 +1,5 @@
 -- An arrival over the queues is the arrival of the rules, and leaves a sound state
+use Rattle.std.specs.Prelude.{if◌then◌else◌}
 use mathlib.Core.Path.{◌≡◌, refl, sym, ◌∙◌, ap}
 use mathlib.Core.Bool.{Bool, true, false}
 use mathlib.Core.Option.{Option, none, some}
@@ -14,7 +15,6 @@ use lib.Seq.{get_or-set_same, get_or-set_other, set-set, get_or-take, length-tak
 use Rattle.state.specs.declared.State.{State}
 use Rattle.rules.specs.State as Rules
 use Rattle.rules.specs.Calls as Calls
-use Rattle.ground.specs.Tests.{if◌then◌else◌}
 use Rattle.rules.specs.Calls.{lowest_idle, wake, arrive_idle, arrive_in, arriving}
 use Rattle.rules.specs.Events.{seize}
 use Rattle.rules.specs.Record.{on_proc}

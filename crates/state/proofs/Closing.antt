@@ -1,4 +1,5 @@
 -- Closing a plane: the code's is the rules'
+use Rattle.std.specs.Prelude.{if◌then◌else◌}
 use mathlib.Core.Path.{◌≡◌, refl, sym, ◌∙◌, ap, subst}
 use mathlib.Core.Bool.{Bool, true, false, ◌&&◌, not}
 use mathlib.Core.Option.{none}
@@ -15,7 +16,6 @@ use Rattle.table.specs.declared.Table.{Table}
 use Rattle.state.specs.declared.Jobs.{Jobs}
 use Rattle.state.specs.declared.State.{State}
 use Rattle.ground.specs.Sums.{sum_of, up_from}
-use Rattle.ground.specs.Tests.{if◌then◌else◌}
 use Rattle.rules.specs.Events.{spend, advance}
 use Rattle.rules.specs.Planes.{close_task, closed}
 use Rattle.rules.specs.State.{Cond, asleep, resting, running, waiting, Task, nobody, at, be, is_awake, last_of, due}

@@ -1,4 +1,5 @@
 -- A work that fits stays one through the moves and the events, and gives the code what it asks
+use Rattle.std.specs.Prelude.{if◌then◌else◌}
 use mathlib.Core.Path.{◌≡◌, refl, sym, ◌∙◌, ap, subst}
 use mathlib.Core.Bool.{Bool, true, false}
 use mathlib.Core.Option.{none, some}
@@ -11,7 +12,6 @@ use lib.Dec.{ltb}
 use lib.ListN.{get_or}
 use lib.Seq.{get_or-set_same}
 use Rattle.ground.specs.Sums.{up_from}
-use Rattle.ground.specs.Tests.{if◌then◌else◌}
 use Rattle.rules.specs.State.{nobody}
 use Rattle.queue.specs.Queues.{push_of, pop_of, top_key, top_task, key_in}
 use Rattle.queue.proofs.Keys.{Added, Removed, push_adds, pop_removes}

@@ -1,7 +1,7 @@
 -- What the moves and the events leave alone: m, the present and the end
+use Rattle.std.specs.Prelude.{if◌then◌else◌}
 use mathlib.Core.Path.{◌≡◌, refl, ◌∙◌}
 use mathlib.Core.Bool.{Bool, true, false}
-use Rattle.ground.specs.Tests.{if◌then◌else◌}
 use Rattle.state.specs.Work.{Work}
 
 pub record Frame (w v : Work) : Type 0 where

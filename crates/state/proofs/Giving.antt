@@ -1,4 +1,5 @@
 -- B events: an idle processor goes to the top of the waiting, the top of the running rests, and so by turns
+use Rattle.std.specs.Prelude.{if◌then◌else◌}
 use mathlib.Core.Path.{◌≡◌, refl, ◌∙◌, ap, subst}
 use mathlib.Core.Bool.{Bool, true, false, false≢true}
 use mathlib.Core.Option.{Option, none, some}
@@ -11,7 +12,6 @@ use lib.Dec.{leb, ltb}
 use lib.ListN.{length, get_or}
 use lib.Seq.{get_or-set_same}
 use Rattle.ground.specs.Sums.{up_from}
-use Rattle.ground.specs.Tests.{if◌then◌else◌}
 use Rattle.rules.specs.Events.{give, b_event, b_events}
 use Rattle.rules.specs.Keys.{wait_key, least}
 use Rattle.rules.specs.State.{resting, running, Task, at, become, amount, runs}

@@ -1,4 +1,5 @@
 -- Last arrivals: what is shown of them is what the columns keep
+use Rattle.std.specs.Prelude.{if◌then◌else◌}
 use mathlib.Core.Path.{◌≡◌, refl, sym, ◌∙◌, ap}
 use mathlib.Core.Bool.{Bool, true, false, ◌&&◌}
 use mathlib.Core.Option.{Option, none, some, some-injective}
@@ -6,7 +7,6 @@ use mathlib.Core.List.{List}
 use Prim.Native.Nat.{ℕ, ◌+◌, max, ◌<◌}
 use lib.Dec.{ltb}
 use lib.ListN.{get_or}
-use Rattle.ground.specs.Tests.{if◌then◌else◌}
 use Rattle.rules.specs.State.{Task, at, period, short, is_awake, last_of, due, soonest}
 use Rattle.rules.proofs.Lasts.{last_is, never}
 use Rattle.rules.specs.Calls.{too_soon}

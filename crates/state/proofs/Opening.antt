@@ -1,4 +1,5 @@
 -- Opening a plane: the code's end and its entering of the tasks are the rules'
+use Rattle.std.specs.Prelude.{if◌then◌else◌}
 use mathlib.Core.Path.{◌≡◌, refl, sym, ◌∙◌, ap, subst}
 use mathlib.Core.Bool.{Bool, true, false}
 use mathlib.Core.Option.{none}
@@ -15,7 +16,6 @@ use Rattle.table.specs.declared.Table.{Table}
 use Rattle.state.specs.declared.Jobs.{Jobs}
 use Rattle.state.specs.declared.State.{State}
 use Rattle.ground.specs.Sums.{sum_of, up_from}
-use Rattle.ground.specs.Tests.{if◌then◌else◌}
 use Rattle.rules.specs.Planes.{end_of, enter, limit, falling, shares_of, enter_as, open_tasks}
 use Rattle.rules.specs.State.{Cond, asleep, resting, running, waiting, Task, at, short, be, become, last_of, runs, waits}
 use Rattle.rules.proofs.Cases.{runs_of, waits_of, run_key_of, wait_key_of}

@@ -1,4 +1,5 @@
 -- Time passing and the record's slots: the queues' are the rules'
+use Rattle.std.specs.Prelude.{if◌then◌else◌}
 use mathlib.Core.Path.{◌≡◌, refl, sym, ◌∙◌, ap}
 use mathlib.Core.Bool.{Bool, true, false}
 use mathlib.Core.Option.{Option, none, some}
@@ -13,7 +14,6 @@ use lib.Dec.{ltb}
 use lib.ListN.{length, get_or, replicate, length-append, length-replicate, get_or-append}
 use lib.Seq.{ext_get_or, get_or-append-add}
 use Rattle.ground.specs.Sums.{up_from}
-use Rattle.ground.specs.Tests.{if◌then◌else◌}
 use Rattle.rules.specs.Events.{spend, advance}
 use Rattle.rules.specs.Record.{on_proc, slots_of}
 use Rattle.rules.specs.State.{Cond, Task, at, be, is_awake, proc}

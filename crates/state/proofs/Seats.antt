@@ -1,4 +1,5 @@
 -- Seats: where a running task sits, and who sits where after a change
+use Rattle.std.specs.Prelude.{if◌then◌else◌}
 use mathlib.Core.Path.{◌≡◌, refl, sym, ◌∙◌, ap}
 use mathlib.Core.Bool.{Bool, true, false}
 use mathlib.Core.Option.{Option, none, some}
@@ -13,7 +14,6 @@ use borrow.Author.Tests.{eq-eqb, ne_eqb, eqb-true, eqb-false}
 use lib.Dec.{eqb}
 use lib.ListN.{length, get_or, set, drop, length-set}
 use lib.Seq.{get_or-set_same, get_or-set_other, drop-cons, drop-length}
-use Rattle.ground.specs.Tests.{if◌then◌else◌}
 use Rattle.state.specs.View.{Seats}
 use Rattle.state.specs.Work.{seat_from, seat}
 use Rattle.state.proofs.Shows.{clash}

@@ -1,4 +1,5 @@
 -- What a sound work shows: its tasks one by one, the least keys of its queues, its slots
+use Rattle.std.specs.Prelude.{if◌then◌else◌}
 use mathlib.Core.Path.{◌≡◌, refl, sym, ◌∙◌, ap}
 use mathlib.Core.Bool.{Bool, true, false}
 use mathlib.Core.Option.{Option, none, some}
@@ -14,7 +15,6 @@ use lib.ListN.{length, get_or}
 use lib.Seq.{ext_get_or}
 use Rattle.queue.specs.declared.Queue.{Queue}
 use Rattle.ground.specs.Sums.{up_from}
-use Rattle.ground.specs.Tests.{if◌then◌else◌}
 use Rattle.rules.specs.Events.{or_key, next_at}
 use Rattle.rules.specs.Keys.{run_key, wait_key, Best, nope, best, better, least}
 use Rattle.rules.specs.State.{Cond, running, waiting, Task, nobody, at, be, become}

@@ -1,4 +1,5 @@
 -- A step of the code over its queues is the step of the rules, and leaves a sound state
+use Rattle.std.specs.Prelude.{if◌then◌else◌}
 use mathlib.Core.Path.{◌≡◌, refl, sym, ◌∙◌, ap, subst}
 use mathlib.Core.Bool.{Bool, true, false}
 use mathlib.Core.Option.{Option, none, some}
@@ -12,7 +13,6 @@ use lib.ListN.{get_or, take}
 use Rattle.state.specs.declared.State.{State}
 use Rattle.rules.specs.State as Rules
 use Rattle.rules.specs.Calls as Calls
-use Rattle.ground.specs.Tests.{if◌then◌else◌}
 use Rattle.rules.specs.Calls.{moving}
 use Rattle.rules.specs.Events.{advance, next_at, events}
 use Rattle.rules.specs.Planes.{end_of, falling, shares_of, open_tasks, opened}

@@ -1,7 +1,6 @@
 -- THE STATE AS THE CODE KEEPS IT: a step and an arrival without their refusals
-use Rattle.std.specs.Prelude.{Bool, true, false, ◌&&◌, ℕ, ◌+◌, ◌*◌, ◌-◌, ◌/◌, min, ltb, eqb, get_or, set, take, replicate}
+use Rattle.std.specs.Prelude.{Bool, true, false, ◌&&◌, ℕ, ◌+◌, ◌*◌, ◌-◌, ◌/◌, min, ltb, eqb, get_or, set, take, replicate, if◌then◌else◌}
 use mathlib.Core.List.{List, foldl}
-use Rattle.ground.specs.Tests.{if◌then◌else◌}
 use Rattle.ground.specs.Sums.{up_from}
 use Rattle.rules.specs.Record.{Record}
 use Rattle.queue.specs.declared.Queue.{Queue}

@@ -1,7 +1,6 @@
 -- THE TEST THAT A STATE IS SOUND: one pass over the entries of each queue and one over the slots, with marks for the tasks that were met
-use Rattle.std.specs.Prelude.{Bool, true, false, not, ◌&&◌, ◌||◌, ℕ, ◌-◌, leb, ltb, eqb, get_or, set, take, replicate}
+use Rattle.std.specs.Prelude.{Bool, true, false, not, ◌&&◌, ◌||◌, ℕ, ◌-◌, leb, ltb, eqb, get_or, set, take, replicate, if◌then◌else◌}
 use mathlib.Core.List.{List, [], ◌∷◌, foldl}
-use Rattle.ground.specs.Tests.{if◌then◌else◌}
 use Rattle.rules.specs.Bounds.{most_processors, most_tasks, slot_count}
 use Rattle.queue.specs.declared.Queue.{Queue}
 use Rattle.queue.specs.Below.{all_below}

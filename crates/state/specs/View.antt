@@ -1,7 +1,6 @@
 -- WHAT A STATE SHOWS, and when its queues and slots are sound
-use Rattle.std.specs.Prelude.{◌≡◌, Bool, true, false, List, map, ℕ, suc, ◌-◌, ◌≤◌, ◌<◌, length, get_or}
+use Rattle.std.specs.Prelude.{◌≡◌, Bool, true, false, List, map, ℕ, suc, ◌-◌, ◌≤◌, ◌<◌, length, get_or, if◌then◌else◌}
 use Rattle.std.proofs.Math.Option.{Option, none, some}
-use Rattle.ground.specs.Tests.{if◌then◌else◌}
 use Rattle.ground.specs.Sums.{up_from}
 use Rattle.rules.specs.Table.{Row}
 use Rattle.rules.specs.State as Rules

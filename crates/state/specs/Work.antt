@@ -1,7 +1,6 @@
 -- THE WORK OF A PLANE: its present and its end in sub-ticks, the two queues, the processors; the moves and the events over it
-use Rattle.std.specs.Prelude.{Bool, true, false, ℕ, zero, suc, ◌+◌, ◌*◌, ◌-◌, min, leb, ltb, eqb, get_or, set, take}
+use Rattle.std.specs.Prelude.{Bool, true, false, ℕ, zero, suc, ◌+◌, ◌*◌, ◌-◌, min, leb, ltb, eqb, get_or, set, take, if◌then◌else◌}
 use mathlib.Core.List.{List, [], ◌∷◌, foldl}
-use Rattle.ground.specs.Tests.{if◌then◌else◌}
 use Rattle.queue.specs.declared.Queue.{Queue}
 use Rattle.queue.specs.Queues.{push_of, pop_of, top_key, top_task}
 

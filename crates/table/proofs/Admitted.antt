@@ -1,4 +1,5 @@
 -- What admission promises, in the words of the rules
+use Rattle.std.specs.Prelude.{if◌then◌else◌}
 use mathlib.Core.Path.{◌≡◌, refl, sym, ◌∙◌, ap, subst}
 use mathlib.Core.Bool.{Bool, true, false}
 use mathlib.Core.List.{List, map}
@@ -7,7 +8,6 @@ use native.Mathlib.Omega.{arith}
 use lib.ListN.{length, get_or, take, length-map, get_or-map}
 use lib.Seq.{ext_get_or}
 use Rattle.ground.proofs.Ranges.{length_up, at_up}
-use Rattle.ground.specs.Tests.{if◌then◌else◌}
 use Rattle.rules.specs.Answers.{is_done}
 use Rattle.rules.specs.Table.{Row, row_at, rows_of}
 use Rattle.rules.specs.State.{no_row, admitted, blank}

@@ -1,6 +1,5 @@
 -- A TABLE IN COLUMNS: the rows that three lists hold, and what the code reads off them
-use Rattle.std.specs.Prelude.{◌≡◌, true, List, map, ◌++◌, ℕ, ◌+◌, ◌*◌, ◌-◌, ◌≤◌, ◌<◌, min, ltb, length, get_or, take, replicate}
-use Rattle.ground.specs.Tests.{if◌then◌else◌}
+use Rattle.std.specs.Prelude.{◌≡◌, true, List, map, ◌++◌, ℕ, ◌+◌, ◌*◌, ◌-◌, ◌≤◌, ◌<◌, min, ltb, length, get_or, take, replicate, if◌then◌else◌}
 use Rattle.ground.specs.Sums.{sum_of, up_from}
 use Rattle.rules.specs.Answers.{is_done}
 use Rattle.rules.specs.Table.{Row, word_at}

@@ -1,4 +1,5 @@
 -- Laws of `first_at`, `split_by` and `ended`
+use Rattle.std.specs.Prelude.{if◌then◌else◌}
 use Prim.Native.Nat.{ℕ, suc, ◌+◌, ◌-◌, ◌≤◌, ◌<◌}
 use mathlib.Core.Path.{◌≡◌, refl, sym, ap, ◌∙◌}
 use mathlib.Core.Bool.{Bool, true, false}
@@ -9,7 +10,6 @@ use borrow.Author.Tests.{eq-eqb, ne_eqb}
 use lib.Dec.{eqb}
 use lib.ListN.{length, get_or, take, drop, length-drop, drop_of_length-le}
 use lib.Seq.{drop-cons, take_all, drop-drop}
-use Rattle.ground.specs.Tests.{if◌then◌else◌}
 use Rattle.text.specs.Parts.{in_front, split_by, first_at}
 
 -- a b stands here

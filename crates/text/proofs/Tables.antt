@@ -1,4 +1,5 @@
 -- The table's bytes read back as the rows of the text
+use Rattle.std.specs.Prelude.{if◌then◌else◌}
 use Prim.Native.Nat.{ℕ, zero, suc, ◌+◌, ◌*◌, ◌-◌, ◌≤◌, ◌<◌}
 use mathlib.Core.Path.{◌≡◌, refl, ◌∙◌}
 use mathlib.Core.Bool.{Bool, true, false, ◌&&◌}
@@ -7,7 +8,7 @@ use native.Mathlib.Omega.{arith}
 use lib.Dec.{leb, ltb}
 use lib.ListN.{length, take, drop, length-take}
 use lib.Seq.{take_all}
-use Rattle.ground.specs.Tests.{if◌then◌else◌, every}
+use Rattle.ground.specs.Tests.{every}
 use Rattle.ground.specs.Bytes.{number}
 use Rattle.ground.proofs.Tests.{leb_says, of_true}
 use Rattle.rules.specs.Table.{Row, rows_of}

@@ -1,6 +1,5 @@
 -- THE FORM OF THE WHOLE TEXT
-use Rattle.std.specs.Prelude.{Bool, false, ◌&&◌, List, [], ◌∷◌, ℕ, ◌+◌, leb, ltb, eqb, length}
-use Rattle.ground.specs.Tests.{if◌then◌else◌}
+use Rattle.std.specs.Prelude.{Bool, false, ◌&&◌, List, [], ◌∷◌, ℕ, ◌+◌, leb, ltb, eqb, length, if◌then◌else◌}
 use Rattle.text.specs.declared.Item.{Item}
 use Rattle.text.specs.declared.Item.TheVariants.{Processors, Task, Arrive, Until, Other}
 use Rattle.text.specs.declared.Checked.{Checked}

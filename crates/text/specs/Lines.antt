@@ -1,6 +1,5 @@
 -- WHAT A LINE SAYS
-use Rattle.std.specs.Prelude.{List, [], ◌∷◌, ℕ}
-use Rattle.ground.specs.Tests.{if◌then◌else◌}
+use Rattle.std.specs.Prelude.{List, [], ◌∷◌, ℕ, if◌then◌else◌}
 use Rattle.text.specs.declared.Numeral.{Numeral}
 use Rattle.text.specs.declared.Numeral.TheVariants.{Value, Nothing}
 use Rattle.text.specs.declared.Item.{Item}

@@ -1,6 +1,5 @@
 -- WHAT A TEXT OF GOOD FORM MEANS
-use Rattle.std.specs.Prelude.{Bool, true, false, List, [], ◌∷◌, ◌++◌, map, ℕ, ◌+◌, ◌-◌, ltb, length, get_or, take, drop}
-use Rattle.ground.specs.Tests.{if◌then◌else◌}
+use Rattle.std.specs.Prelude.{Bool, true, false, List, [], ◌∷◌, ◌++◌, map, ℕ, ◌+◌, ◌-◌, ltb, length, get_or, take, drop, if◌then◌else◌}
 use Rattle.rules.specs.Table.{Row, table_bytes}
 use Rattle.text.specs.declared.Item.{Item}
 use Rattle.text.specs.declared.Item.TheVariants.{Processors, Task, Arrive, Until, Other}

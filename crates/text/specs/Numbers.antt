@@ -1,6 +1,6 @@
 -- DECIMAL NUMBERS, as they are read
-use Rattle.std.specs.Prelude.{Bool, true, false, not, ◌&&◌, List, [], ◌∷◌, ℕ, ◌+◌, ◌*◌, ◌-◌, leb, eqb}
-use Rattle.ground.specs.Tests.{if◌then◌else◌, every}
+use Rattle.std.specs.Prelude.{Bool, true, false, not, ◌&&◌, List, [], ◌∷◌, ℕ, ◌+◌, ◌*◌, ◌-◌, leb, eqb, if◌then◌else◌}
+use Rattle.ground.specs.Tests.{every}
 use Rattle.text.specs.declared.Numeral.{Numeral}
 use Rattle.text.specs.declared.Numeral.TheVariants.{Value, Nothing}
 

@@ -1,6 +1,5 @@
 -- BYTES, LINES AND PARTS
-use Rattle.std.specs.Prelude.{Bool, true, false, ◌&&◌, List, [], ◌∷◌, ℕ, suc, eqb}
-use Rattle.ground.specs.Tests.{if◌then◌else◌}
+use Rattle.std.specs.Prelude.{Bool, true, false, ◌&&◌, List, [], ◌∷◌, ℕ, suc, eqb, if◌then◌else◌}
 
 -- one byte more in front: does it split? Then an empty piece stands before it; if not, it joins the first piece
 abbrev pub in_front : Bool → ℕ → List (List ℕ) → List (List ℕ)

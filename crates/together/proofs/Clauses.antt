@@ -1,4 +1,5 @@
 -- What the clauses over jobs and queues say of the tasks that a sound state shows: they are the rules' tests
+use Rattle.std.specs.Prelude.{if◌then◌else◌}
 use mathlib.Core.Path.{◌≡◌, refl, sym, ◌∙◌, ap}
 use mathlib.Core.Bool.{Bool, true, false, not, ◌&&◌, ◌||◌}
 use mathlib.Core.Option.{Option, none, some}
@@ -11,7 +12,7 @@ use lib.Dec.{leb, ltb, eqb}
 use lib.ListN.{length, get_or}
 use Rattle.state.specs.declared.State.{State}
 use Rattle.ground.specs.Sums.{sum_of, up_from}
-use Rattle.ground.specs.Tests.{if◌then◌else◌, Says, every}
+use Rattle.ground.specs.Tests.{Says, every}
 use Rattle.ground.proofs.Sums.{sum_of_map, sum_of_at, sum_of_none}
 use Rattle.ground.proofs.Tests.{leb_says, ltb_says, eqb_says, and_says, says_as, is_true, is_false, of_true, every_says}
 use Rattle.rules.specs.Holds.{last_holds, lasts_hold, rests_at, closed_holds, amount_fits, idle_holds, sum_holds, ceil_tick, limit_holds, open_holds, plane_holds}

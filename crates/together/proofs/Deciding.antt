@@ -1,4 +1,5 @@
 -- The test in the order in which the code decides it: the rows, the kept order, and then the queues
+use Rattle.std.specs.Prelude.{if◌then◌else◌}
 use mathlib.Core.Path.{◌≡◌, sym, ◌∙◌, ap}
 use mathlib.Core.Bool.{Bool, true, false, ◌&&◌}
 use mathlib.Core.List.{List}
@@ -9,7 +10,6 @@ use borrow.Author.Tests.{le-leb, leb-true}
 use lib.Dec.{ltb, eqb}
 use lib.ListN.{get_or}
 use Rattle.state.specs.declared.State.{State}
-use Rattle.ground.specs.Tests.{if◌then◌else◌}
 use Rattle.ground.proofs.Tests.{of_true}
 use Rattle.rules.specs.Bounds.{clock}
 use Rattle.state.specs.Machine.{end_at, tick_at}

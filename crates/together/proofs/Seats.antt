@@ -1,4 +1,5 @@
 -- The processors of a sound work's tasks: each runs on one of the m, and no two on the same
+use Rattle.std.specs.Prelude.{if◌then◌else◌}
 use mathlib.Core.Path.{◌≡◌, refl, ◌∙◌, ap, subst}
 use mathlib.Core.Bool.{Bool, true, false}
 use mathlib.Core.Option.{Option, none, some}
@@ -9,7 +10,7 @@ use native.Mathlib.Omega.{arith}
 use lib.Dec.{eqb}
 use lib.ListN.{length, get_or}
 use Rattle.ground.specs.Sums.{sum_of}
-use Rattle.ground.specs.Tests.{if◌then◌else◌, Says}
+use Rattle.ground.specs.Tests.{Says}
 use Rattle.ground.proofs.Sums.{sum_of_none}
 use Rattle.ground.proofs.Tests.{eqb_says}
 use Rattle.rules.specs.State.{Cond, asleep, resting, running, waiting, Task, nobody, at, proc, runs, on}

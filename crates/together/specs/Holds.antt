@@ -1,7 +1,6 @@
 -- A STATE THAT HOLDS TOGETHER, clause by clause, as a test of the state that the code keeps
-use Rattle.std.specs.Prelude.{◌≡◌, Bool, true, ◌&&◌, List, map, ℕ, ◌*◌, ◌≤◌, ◌<◌, leb, get_or, take}
+use Rattle.std.specs.Prelude.{◌≡◌, Bool, true, ◌&&◌, List, map, ℕ, ◌*◌, ◌≤◌, ◌<◌, leb, get_or, take, if◌then◌else◌}
 use Rattle.table.specs.Rows.{share_sum_of}
-use Rattle.ground.specs.Tests.{if◌then◌else◌}
 use Rattle.ground.specs.Sums.{up_from}
 use Rattle.rules.specs.Table.{Row}
 use Rattle.rules.specs.Scale.{scale_of, share_of}

@@ -1,4 +1,5 @@
 -- Bounds that the tests of rows give the code, so that no sum and no product wraps
+use Rattle.std.specs.Prelude.{if◌then◌else◌}
 use mathlib.Core.Path.{◌≡◌, refl, ap}
 use mathlib.Core.Bool.{Bool, true, false, ◌&&◌}
 use mathlib.Core.List.{List}
@@ -9,7 +10,6 @@ use borrow.Author.Tests.{leb-true, eqb-true}
 use lib.Dec.{leb, eqb}
 use lib.ListN.{get_or}
 use Rattle.table.specs.Rows.{share_sum_of}
-use Rattle.ground.specs.Tests.{if◌then◌else◌}
 use Rattle.ground.specs.Sums.{sum_of, up_from}
 use Rattle.ground.proofs.Tests.{leb_says, of_true}
 use Rattle.rules.specs.Bounds.{clock, most_scale, most_ticks}

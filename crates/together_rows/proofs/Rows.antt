@@ -1,4 +1,5 @@
 -- One loop over the rows: every row so far passes, and the sums so far
+use Rattle.std.specs.Prelude.{if◌then◌else◌}
 use mathlib.Core.Path.{◌≡◌, refl, sym, ◌∙◌, ap}
 use mathlib.Core.Bool.{Bool, true, false, ◌&&◌, ◌||◌}
 use mathlib.Core.List.{List}
@@ -7,7 +8,6 @@ use native.Mathlib.Omega.{arith}
 use lib.Dec.{eqb}
 use lib.ListN.{get_or}
 use borrow.Author.Tests.{eqb-true}
-use Rattle.ground.specs.Tests.{if◌then◌else◌}
 use Rattle.rules.specs.Bounds.{most_scale}
 use Rattle.rules.specs.Scale.{gcd}
 use Rattle.together_rows.specs.Tables.{row_ok, share_ok, common_below}

@@ -1,7 +1,6 @@
 -- THE TASKS' JOBS, row by row: last arrivals, the tasks of a closed plane, and the limits of an open one
-use Rattle.std.specs.Prelude.{Bool, true, false, not, List, ℕ, ◌+◌, ◌/◌, ◌%◌, min, max, leb, ltb, eqb, get_or}
+use Rattle.std.specs.Prelude.{Bool, true, false, not, List, ℕ, ◌+◌, ◌/◌, ◌%◌, min, max, leb, ltb, eqb, get_or, if◌then◌else◌}
 use Rattle.ground.specs.Sums.{sum_of, up_from}
-use Rattle.ground.specs.Tests.{if◌then◌else◌}
 use Rattle.queue.specs.Below.{all_below}
 
 -- LAST ARRIVALS: "A last arrival is never later than the present, and an awake task has one."

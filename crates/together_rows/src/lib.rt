@@ -1,6 +1,5 @@
 // The rows' part of the check: table, scale, shares, last arrivals, limits, and the kept order.
-ghost use Rattle.std.specs.Prelude.{◌≡◌, List, true, false, ◌&&◌, ◌||◌, ℕ, ◌+◌, ◌*◌, ◌/◌, ◌≤◌, ◌<◌, min, max, leb, ltb, eqb, get_or};
-ghost use Rattle.ground.specs.Tests.{if◌then◌else◌};
+ghost use Rattle.std.specs.Prelude.{◌≡◌, List, true, false, ◌&&◌, ◌||◌, ℕ, ◌+◌, ◌*◌, ◌/◌, ◌≤◌, ◌<◌, min, max, leb, ltb, eqb, get_or, if◌then◌else◌};
 ghost use Rattle.rules.specs.Admission.{processors_ok};
 ghost use Rattle.rules.specs.Bounds.{clock, most_scale, most_ticks};
 ghost use Rattle.together_rows.specs.Tables.{row_ok, scale_in_range, share_ok, common_below, table_of, places_ok, ahead, falls_ok};
