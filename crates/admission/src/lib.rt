@@ -1,4 +1,6 @@
 // Admission: table bytes and m give a state at instant 0, in lent arrays or by value. Neither call asks anything of its arguments.
+#![tactic(auto)]
+
 ghost use Rattle.std.specs.Prelude.{◌≡◌, false, ◌*◌, ◌≤◌, length, replicate};
 ghost use Rattle.rules.specs.Table.{rows_of};
 ghost use Rattle.rules.specs.Admission.{rows_verdict, size_verdict};

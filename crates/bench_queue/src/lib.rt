@@ -1,4 +1,6 @@
 // The queue's two operations under C names, for bench/queue to time.
+#![tactic(auto)]
+
 ghost use Rattle.std.specs.Prelude.{◌≡◌, ◌≤◌, ◌<◌};
 ghost use Rattle.queue.specs.Queues.{push_of, pop_of};
 ghost use Rattle.queue.specs.Lent.{old, new};

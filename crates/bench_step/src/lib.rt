@@ -1,5 +1,7 @@
 // The scheduler under C names, for the benchmarks to time: the work in place on a state that holds together, the check
 // alone, the public calls one after another, and a run as text.
+#![tactic(auto)]
+
 ghost use Rattle.std.specs.Prelude.{◌≡◌, ℕ, ◌*◌, ◌<◌, ◌≤◌, length};
 ghost use Rattle.moves.specs.Whole.{Whole};
 ghost use Rattle.moves.specs.Lent.{old};

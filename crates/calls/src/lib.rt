@@ -1,4 +1,6 @@
 // The calls by value: arrive, step, and run for many steps at once. None of them asks anything of its arguments.
+#![tactic(auto)]
+
 ghost use Rattle.std.specs.Prelude.{◌≡◌, true, length};
 ghost use Rattle.rules.specs.Answers.{is_done};
 ghost use Rattle.refusals.specs.Step.{Ahead};

@@ -1,4 +1,6 @@
 // The way through a text: a cursor, and a call at a time what comes of it.
+#![tactic(auto)]
+
 ghost use Rattle.std.specs.Prelude.{◌≡◌, ◌*◌, eqb, length};
 ghost use Rattle.inplace.specs.Run.{run_room};
 ghost use Rattle.course.specs.Turns.{first_cursor, is_ended, ended_at, line_after, skipped_of, admitted_of, start_of, arrival_of, ran_of, item_deed, line_deed, deed_by, turn_of, turn_room};

@@ -1,1 +1,3 @@
 // The three demands, said of the calls, and why they hold. There is no code here.
+#![tactic(auto)]
+

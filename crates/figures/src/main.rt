@@ -1,5 +1,7 @@
 // Figures that are run and compared: the library's calls at their bounds, Table 1 of document 001, and long courses. The
 // cases are orders, a line each, in the input.
+#![tactic(auto)]
+
 mod course;
 mod damage;
 mod numbers;

@@ -1,4 +1,6 @@
 // Columns of flags as bytes: 1 for yes, 0 for no, and no other byte is a flag.
+#![tactic(auto)]
+
 ghost use Rattle.std.specs.Prelude.{◌≡◌, map, max};
 ghost use Rattle.flags.specs.Flags.{bit, flag, flags_ok};
 

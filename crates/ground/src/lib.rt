@@ -1,4 +1,6 @@
 // What every room stands on: the two axes of document 001, both counted in sub-ticks; and numbers as bytes.
+#![tactic(auto)]
+
 ghost use Rattle.std.specs.Prelude.{◌+◌, ◌-◌, ◌≤◌, ◌<◌, ◌^◌, ◌≡◌, length, take, drop};
 ghost use Rattle.ground.specs.Bytes.{le, number, pasted};
 

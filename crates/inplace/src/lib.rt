@@ -1,4 +1,6 @@
 // Arrive, step and run on a state that lies in lent columns: checked and worked on where it stands. None of them asks anything of its arguments.
+#![tactic(auto)]
+
 ghost use Rattle.std.specs.Prelude.{◌≡◌, true, length};
 ghost use Rattle.rules.specs.Answers.{is_done};
 ghost use Rattle.refusals.specs.Arrive.{arrive_answer_of};

@@ -1,4 +1,6 @@
 // The listing of a text, 65,536 bytes at a time.
+#![tactic(auto)]
+
 ghost use Rattle.std.specs.Prelude.{◌≡◌};
 ghost use Rattle.text.specs.Puts.{Put, Counts};
 ghost use Rattle.course.specs.Moves.{Falls};

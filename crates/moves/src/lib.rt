@@ -1,4 +1,6 @@
 // A step and an arrival in place. Each is lent the columns that it touches; its promise is an equation on states, whatever the others are.
+#![tactic(auto)]
+
 ghost use Rattle.std.specs.Prelude.{◌≡◌, true, ◌*◌, ◌<◌, ◌≤◌, length};
 ghost use Rattle.rules.specs.Reasons.{Comes};
 ghost use Rattle.state.specs.Machine.{work_of, opened_of, move_to, moved_of, arrived_of};

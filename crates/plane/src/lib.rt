@@ -1,4 +1,6 @@
 // The work of a plane in place: the queues' arrays and the slots are lent, and the queues' new lengths come back.
+#![tactic(auto)]
+
 ghost use Rattle.std.specs.Prelude.{◌≡◌, List, ℕ, ◌+◌, ◌-◌, ◌*◌, min, ◌≤◌, ◌<◌, get_or, set, take};
 ghost use Rattle.queue.specs.Lent as Queues;
 ghost use Rattle.queue.specs.Queues.{push_of, pop_of};

@@ -1,4 +1,6 @@
 // The lines that the program writes.
+#![tactic(auto)]
+
 ghost use Rattle.std.specs.Prelude.{◌≡◌, [], ◌∷◌, ◌+◌, ◌*◌, ◌≤◌, ◌<◌, length, take, drop};
 ghost use Rattle.rules.specs.Record.{slots_from, read_record};
 ghost use Rattle.text.specs.Parts.{space};

@@ -1,4 +1,6 @@
 // The program: reads a text, and writes its listing chunk by chunk.
+#![tactic(auto)]
+
 use libc::STDOUT_FILENO;
 
 // Writes the listing of a text, until it is at its end or nobody takes it.

@@ -1,4 +1,6 @@
 // A record's 48 bytes, written into lent room.
+#![tactic(auto)]
+
 ghost use Rattle.std.specs.Prelude.{◌≡◌, ◌++◌, ◌+◌, ◌≤◌, length, take, drop};
 ghost use Rattle.ground.specs.Bytes.{le};
 ghost use Rattle.rules.specs.Record.{slot_bytes, record_bytes};

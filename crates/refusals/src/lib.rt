@@ -1,4 +1,6 @@
 // The refusals of arrive, step and run, decided on the parts of a state that are lent.
+#![tactic(auto)]
+
 ghost use Rattle.std.specs.Prelude.{◌≡◌, ◌+◌, ◌≤◌, ltb};
 ghost use Rattle.rules.specs.Bounds.{clock, most_scale};
 ghost use Rattle.moves.specs.Lent.{old};

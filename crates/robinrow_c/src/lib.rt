@@ -1,4 +1,6 @@
 // The calls under C names, on the parts of a struct that the caller owns and lends: worked on where it stands, nothing is kept. None asks anything of its arguments.
+#![tactic(auto)]
+
 ghost use Rattle.std.specs.Prelude.{◌≡◌, ◌&&◌, leb};
 ghost use Rattle.admission.specs.Admit.{admit_of};
 ghost use Rattle.robinrow_c.specs.Lent.{admitted, before_arrival, after_arrival, before_step, after_step};

@@ -1,4 +1,6 @@
 // The answers of the calls and of the program, with the numbers of document 01.
+#![tactic(auto)]
+
 ghost use Rattle.std.specs.Prelude.{◌≡◌};
 ghost use Rattle.rules.specs.Answers.{number_of};
 

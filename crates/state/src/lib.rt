@@ -1,4 +1,6 @@
 // The state of the scheduler.
+#![tactic(auto)]
+
 use ground::Instant;
 use queue::Queue;
 use table::Table;

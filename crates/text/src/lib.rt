@@ -1,4 +1,6 @@
 // The program's text: its form and what it means.
+#![tactic(auto)]
+
 ghost use Rattle.std.specs.Prelude.{◌≡◌, true, false, ℕ, ◌+◌, ◌-◌, ◌*◌, ◌≤◌, ◌<◌, length, drop, ◌++◌};
 ghost use Rattle.text.specs.Parts.{first_at, same, split_by, newline};
 ghost use Rattle.text.specs.Numbers.{most_number, is_digit, plain, numeral_of};

@@ -1,4 +1,6 @@
 // The program on texts, files of the folder data that the input names, a line each: a line with the name, then what it writes.
+#![tactic(auto)]
+
 ghost use Rattle.std.specs.Prelude.{◌≤◌, length};
 
 use libc::STDOUT_FILENO;

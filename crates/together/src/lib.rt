@@ -1,4 +1,6 @@
 // Does a state that is handed in hold together? Any state: every field may have any value of its type.
+#![tactic(auto)]
+
 ghost use Rattle.std.specs.Prelude.{◌≡◌};
 ghost use Rattle.queue.specs.Lent.{old};
 ghost use Rattle.together_rows.specs.Tables.{table_of};

@@ -1,4 +1,6 @@
 // The queues' part of the check: the queues, the awake flags and the slots agree, and the amounts of an open plane.
+#![tactic(auto)]
+
 ghost use Rattle.std.specs.Prelude.{◌≡◌, Bool, true, ◌&&◌, ◌||◌, List, ℕ, ◌+◌, ◌-◌, ◌*◌, ◌%◌, ◌≤◌, ◌<◌, leb, ltb, eqb, length, get_or, take};
 ghost use Rattle.queue.specs.Lent.{at, old};
 ghost use Rattle.queue.specs.Queues.{stands_of};

@@ -1,4 +1,6 @@
 // The rows' part of the check: table, scale, shares, last arrivals, limits, and the kept order.
+#![tactic(auto)]
+
 ghost use Rattle.std.specs.Prelude.{◌≡◌, List, true, false, ◌&&◌, ◌||◌, ℕ, ◌+◌, ◌*◌, ◌/◌, ◌≤◌, ◌<◌, min, max, leb, ltb, eqb, get_or, if◌then◌else◌};
 ghost use Rattle.rules.specs.Admission.{processors_ok};
 ghost use Rattle.rules.specs.Bounds.{clock, most_scale, most_ticks};

@@ -22,8 +22,10 @@ loop-i-preserved c =
 
 pub returns : goal.returns
 returns c =
-    record { is = let k = c.loop-i in
-    let b = c.args.bytes.now in
-    let e : k.i ≡ 128 = omega arith in
-    let all = taken_all b k.i k.invariant.2 e in
-    (k.invariant.4 ∙ ap flags_ok all, sym (taken_all k.flags k.i k.invariant.1 e) ∙ k.invariant.3 ∙ ap (map flag) all) }
+    record {
+      is = let k = c.loop-i in
+          let b = c.args.bytes.now in
+          let e : k.i ≡ 128 = omega arith in
+          let all = taken_all b k.i k.invariant.2 e in
+          (k.invariant.4 ∙ ap flags_ok all, sym (taken_all k.flags k.i k.invariant.1 e) ∙ k.invariant.3 ∙ ap (map flag) all);
+    }

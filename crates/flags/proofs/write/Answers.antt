@@ -18,7 +18,9 @@ loop-i-preserved c =
 
 pub returns : goal.returns
 returns c =
-    record { is = let k = c.loop-i in
-    let f = c.args.flags.now in
-    let e : k.i ≡ 128 = omega arith in
-    sym (taken_all k.bytes k.i k.invariant.1 e) ∙ k.invariant.3 ∙ ap (map bit) (taken_all f k.i k.invariant.2 e) }
+    record {
+      is = let k = c.loop-i in
+          let f = c.args.flags.now in
+          let e : k.i ≡ 128 = omega arith in
+          sym (taken_all k.bytes k.i k.invariant.1 e) ∙ k.invariant.3 ∙ ap (map bit) (taken_all f k.i k.invariant.2 e);
+    }

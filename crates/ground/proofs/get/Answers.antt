@@ -50,6 +50,8 @@ loop-i-preserved c =
 
 pub returns : goal.returns
 returns c =
-    record { is = let k = c.loop-i in
-    let a = c.args in
-    all a.bytes.now a.at a.width k.i k.r c.loop-i-test.false (k.invariant.1, k.invariant.2) }
+    record {
+      is = let k = c.loop-i in
+          let a = c.args in
+          all a.bytes.now a.at a.width k.i k.r c.loop-i-test.false (k.invariant.1, k.invariant.2);
+    }

@@ -18,8 +18,10 @@ loop-i-preserved c =
 
 pub returns : goal.returns
 returns c =
-    record { is = let k = c.loop-i in
-    let a = c.args in
-    sym (le_none k.bytes (a.at + k.i) k.invariant.0 k.y (omega arith))
-    ∙ k.invariant.3
-    ∙ stored a.bytes.now (le a.width a.x) a.at (omega (arith, length_le a.width a.x)) }
+    record {
+      is = let k = c.loop-i in
+          let a = c.args in
+          sym (le_none k.bytes (a.at + k.i) k.invariant.0 k.y (omega arith))
+          ∙ k.invariant.3
+          ∙ stored a.bytes.now (le a.width a.x) a.at (omega (arith, length_le a.width a.x));
+    }

@@ -43,10 +43,12 @@ loop-k-preserved c =
 
 pub returns : goal.returns
 returns c =
-    record { is = let k = c.loop-k in
-    let n : length c.args.slots ≡ 16 = search rules in
-    let e : k.k ≡ 16 = omega arith in
-    let r = c.args.room.now in
-    k.invariant.2
-    ∙ ap (λ (m : ℕ). take 16 r ++ slot_bytes (take m c.args.slots) ++ drop (16 + 2 * m) r) e
-    ∙ ap (λ (x : List ℕ). take 16 r ++ slot_bytes x ++ drop 48 r) (take_all 16 c.args.slots (omega arith)) }
+    record {
+      is = let k = c.loop-k in
+          let n : length c.args.slots ≡ 16 = search rules in
+          let e : k.k ≡ 16 = omega arith in
+          let r = c.args.room.now in
+          k.invariant.2
+          ∙ ap (λ (m : ℕ). take 16 r ++ slot_bytes (take m c.args.slots) ++ drop (16 + 2 * m) r) e
+          ∙ ap (λ (x : List ℕ). take 16 r ++ slot_bytes x ++ drop 48 r) (take_all 16 c.args.slots (omega arith));
+    }

@@ -10,7 +10,9 @@ use Rattle.record.proofs.write.Goals as goal
 pub returns : goal.returns
 unfolding le record_bytes
 returns c =
-    record { is = let a = c.args in
-    c.put_slots.ensures.is
-    ∙ ap (λ (l : List ℕ). take 16 l ++ slot_bytes a.slots.now ++ drop 48 l) c.put_head.ensures.is
-    ∙ ap (λ (l : List ℕ). le 8 a.from.0 ++ le 8 a.to.0 ++ slot_bytes a.slots.now ++ l) (drop-drop 32 16 a.room.now) }
+    record {
+      is = let a = c.args in
+          c.put_slots.ensures.is
+          ∙ ap (λ (l : List ℕ). take 16 l ++ slot_bytes a.slots.now ++ drop 48 l) c.put_head.ensures.is
+          ∙ ap (λ (l : List ℕ). le 8 a.from.0 ++ le 8 a.to.0 ++ slot_bytes a.slots.now ++ l) (drop-drop 32 16 a.room.now);
+    }
