@@ -3,7 +3,7 @@
 
 ghost use Rattle.std.specs.Prelude.{◌≡◌, ◌≤◌, ◌<◌};
 ghost use Rattle.queue.specs.Queues.{push_of, pop_of};
-ghost use Rattle.queue.specs.Lent.{old, new};
+ghost use Rattle.queue.specs.Lent.{at};
 
 use ground::Instant;
 
@@ -16,7 +16,7 @@ pub extern "C" fn rattle_push(
     task: u16,
 ) -> usize
     requires room { n < 128 }
-    ensures is { new keys tasks result ≡ push_of (old keys tasks n) key task }
+    ensures is { at keys.new tasks.new result ≡ push_of (at keys.old tasks.old n) key task }
 {
     queue::push(keys, tasks, n, Instant(key), task)
 }
@@ -24,7 +24,7 @@ pub extern "C" fn rattle_push(
 #[unsafe(no_mangle)]
 pub extern "C" fn rattle_pop(keys: &mut [u64; 128], tasks: &mut [u16; 128], n: usize) -> usize
     requires held { (0 < n) × (n ≤ 128) }
-    ensures is { new keys tasks result ≡ pop_of (old keys tasks n) }
+    ensures is { at keys.new tasks.new result ≡ pop_of (at keys.old tasks.old n) }
 {
     queue::pop(keys, tasks, n)
 }

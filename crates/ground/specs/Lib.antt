@@ -1,4 +1,3 @@
 pub mod Tests
 pub mod Sums
 pub mod Bytes
-pub mod Lent

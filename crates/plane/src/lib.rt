@@ -7,7 +7,7 @@ ghost use Rattle.queue.specs.Queues.{push_of, pop_of};
 ghost use Rattle.state.specs.Work.{seat, first_idle, give_top, b_one, b_all, due, seize_top, c_one, c_all, events_of, or_top, next_of, enter, enter_row, enter_all, joins};
 ghost use Rattle.state.specs.Machine.{no_slots, shorter_at, limit_at, plane_end, sleep_row, sleep_all};
 ghost use Rattle.state.specs.Fit.{Fit, Yields, Eventful, Joining, Enters, Opens};
-ghost use Rattle.plane.specs.Lent.{work_at, here, old, new, cleared, Critical};
+ghost use Rattle.plane.specs.Lent.{work_at, work, cleared, Critical};
 ghost use Rattle.plane.specs.Rows.{rows, jobs, Came, CameAt};
 
 use ground::{Amount, Instant};
@@ -38,7 +38,7 @@ fn rest_top(
     p: usize,
 ) -> usize
     requires held { (0 < n) × (n ≤ 128) × (p < 16) }
-    ensures is { (Queues.new rk rt result ≡ pop_of (Queues.old rk rt n)) × (slots.new ≡ set slots.old p 0) }
+    ensures is { (Queues.at rk.new rt.new result ≡ pop_of (Queues.at rk.old rt.old n)) × (slots.new ≡ set slots.old p 0) }
 {
     slots[p] = 0;
     queue::pop(rk, rt, n)
@@ -54,7 +54,7 @@ fn park(
     a: Amount,
 ) -> usize
     requires room { (n < 128) × (a.0 ≤ close.0) }
-    ensures is { Queues.new wk wt result ≡ push_of (Queues.old wk wt n) (close.0 - a.0) task }
+    ensures is { Queues.at wk.new wt.new result ≡ push_of (Queues.at wk.old wt.old n) (close.0 - a.0) task }
 {
     queue::push(wk, wt, n, ground::sooner(close, a), task)
 }
@@ -71,7 +71,7 @@ fn place(
     a: Amount,
 ) -> usize
     requires room { (n < 128) × (p < 16) × (present.0 + a.0 < 18446744073709551616) }
-    ensures is { (Queues.new rk rt result ≡ push_of (Queues.old rk rt n) (present.0 + a.0) task) × (slots.new ≡ set slots.old p task) }
+    ensures is { (Queues.at rk.new rt.new result ≡ push_of (Queues.at rk.old rt.old n) (present.0 + a.0) task) × (slots.new ≡ set slots.old p task) }
 {
     slots[p] = task;
     queue::push(rk, rt, n, ground::later(present, a), task)
@@ -141,8 +141,8 @@ fn give_top(
     slots: &mut [u16; 16],
     p: usize,
 ) -> Lengths
-    requires fit { (p < 16) × Fit (here plane n rk rt wk wt slots) }
-    ensures is { new plane result rk rt wk wt slots ≡ give_top p (old plane n rk rt wk wt slots) }
+    requires fit { (p < 16) × Fit (work plane n rk.old rt.old wk.old wt.old slots.old) }
+    ensures is { work plane result rk.new rt.new wk.new wt.new slots.new ≡ give_top p (work plane n rk.old rt.old wk.old wt.old slots.old) }
 {
     if 0 < n.waiting {
         let task = queue::least_task(wt);
@@ -167,8 +167,8 @@ fn b_one(
     wt: &mut [u16; 128],
     slots: &mut [u16; 16],
 ) -> Lengths
-    requires fit { (0 < n.running) × Fit (here plane n rk rt wk wt slots) }
-    ensures is { new plane result rk rt wk wt slots ≡ b_one (old plane n rk rt wk wt slots) }
+    requires fit { (0 < n.running) × Fit (work plane n rk.old rt.old wk.old wt.old slots.old) }
+    ensures is { work plane result rk.new rt.new wk.new wt.new slots.new ≡ b_one (work plane n rk.old rt.old wk.old wt.old slots.old) }
 {
     let p = top_place(rt, slots);
     let running = rest_top(rk, rt, n.running, slots, p);
@@ -199,8 +199,8 @@ fn b_all(
     wt: &mut [u16; 128],
     slots: &mut [u16; 16],
 ) -> Lengths
-    requires fit { Fit (here plane n rk rt wk wt slots) }
-    ensures is { new plane result rk rt wk wt slots ≡ b_all (old plane n rk rt wk wt slots) }
+    requires fit { Fit (work plane n rk.old rt.old wk.old wt.old slots.old) }
+    ensures is { work plane result rk.new rt.new wk.new wt.new slots.new ≡ b_all (work plane n rk.old rt.old wk.old wt.old slots.old) }
 {
     let mut k = n;
     while is_due(rk, k.running, plane.now) {
@@ -221,8 +221,8 @@ fn seize_top(
     task: u16,
     a: Amount,
 ) -> Lengths
-    requires fit { (plane.now.0 + a.0 ≤ plane.close.0) × Yields (here plane n rk rt wk wt slots) × Fit (here plane n rk rt wk wt slots) }
-    ensures is { new plane result rk rt wk wt slots ≡ seize_top task a.0 (old plane n rk rt wk wt slots) }
+    requires fit { (plane.now.0 + a.0 ≤ plane.close.0) × Yields (work plane n rk.old rt.old wk.old wt.old slots.old) × Fit (work plane n rk.old rt.old wk.old wt.old slots.old) }
+    ensures is { work plane result rk.new rt.new wk.new wt.new slots.new ≡ seize_top task a.0 (work plane n rk.old rt.old wk.old wt.old slots.old) }
 {
     let out = queue::least_task(rt);
     let left = ground::between(plane.now, queue::least_key(rk));
@@ -246,8 +246,8 @@ fn c_one(
     wt: &mut [u16; 128],
     slots: &mut [u16; 16],
 ) -> Lengths
-    requires fit { (0 < n.waiting) × Yields (here plane n rk rt wk wt slots) × Fit (here plane n rk rt wk wt slots) }
-    ensures is { new plane result rk rt wk wt slots ≡ c_one (old plane n rk rt wk wt slots) }
+    requires fit { (0 < n.waiting) × Yields (work plane n rk.old rt.old wk.old wt.old slots.old) × Fit (work plane n rk.old rt.old wk.old wt.old slots.old) }
+    ensures is { work plane result rk.new rt.new wk.new wt.new slots.new ≡ c_one (work plane n rk.old rt.old wk.old wt.old slots.old) }
 {
     let task = queue::least_task(wt);
     let a = ground::between(queue::least_key(wk), plane.close);
@@ -269,8 +269,8 @@ fn c_all(
     wt: &mut [u16; 128],
     slots: &mut [u16; 16],
 ) -> Lengths
-    requires fit { Critical (here plane n rk rt wk wt slots) }
-    ensures is { new plane result rk rt wk wt slots ≡ c_all (old plane n rk rt wk wt slots) }
+    requires fit { Critical (work plane n rk.old rt.old wk.old wt.old slots.old) }
+    ensures is { work plane result rk.new rt.new wk.new wt.new slots.new ≡ c_all (work plane n rk.old rt.old wk.old wt.old slots.old) }
 {
     let mut k = n;
     let mut left = k.waiting;
@@ -294,8 +294,8 @@ pub fn events(
     wt: &mut [u16; 128],
     slots: &mut [u16; 16],
 ) -> Lengths
-    requires fit { Eventful (here plane n rk rt wk wt slots) }
-    ensures is { new plane result rk rt wk wt slots ≡ events_of (old plane n rk rt wk wt slots) }
+    requires fit { Eventful (work plane n rk.old rt.old wk.old wt.old slots.old) }
+    ensures is { work plane result rk.new rt.new wk.new wt.new slots.new ≡ events_of (work plane n rk.old rt.old wk.old wt.old slots.old) }
 {
     let k = b_all(plane, n, rk, rt, wk, wt, slots);
     c_all(plane, k, rk, rt, wk, wt, slots)
@@ -399,8 +399,8 @@ fn enter(
     task: u16,
     a: Amount,
 ) -> Lengths
-    requires fit { Enters (here plane n rk rt wk wt slots) a.0 }
-    ensures is { new plane result rk rt wk wt slots ≡ enter task a.0 (old plane n rk rt wk wt slots) }
+    requires fit { Enters (work plane n rk.old rt.old wk.old wt.old slots.old) a.0 }
+    ensures is { work plane result rk.new rt.new wk.new wt.new slots.new ≡ enter task a.0 (work plane n rk.old rt.old wk.old wt.old slots.old) }
 {
     if n.running < plane.m {
         let running = place(rk, rt, n.running, slots, n.running, plane.now, task, a);
@@ -430,8 +430,8 @@ fn enter_row(
     len: u64,
     row: u16,
 ) -> Lengths
-    requires fit { (row < 128) × Enters (here plane n rk rt wk wt slots) (get_or share.now row 0 * len) }
-    ensures is { new plane result rk rt wk wt slots ≡ enter_row awake.now share.now len (old plane n rk rt wk wt slots) row }
+    requires fit { (row < 128) × Enters (work plane n rk.old rt.old wk.old wt.old slots.old) (get_or share.now row 0 * len) }
+    ensures is { work plane result rk.new rt.new wk.new wt.new slots.new ≡ enter_row awake.now share.now len (work plane n rk.old rt.old wk.old wt.old slots.old) row }
 {
     let i = row as usize;
     if !awake[i] {
@@ -456,7 +456,7 @@ pub fn open_plane(
     len: u64,
 ) -> Lengths
     requires fit { Opens (cleared plane) order.now share.now count len }
-    ensures is { new plane result rk rt wk wt slots ≡ enter_all awake.now share.now len (take count order.now) (cleared plane) }
+    ensures is { work plane result rk.new rt.new wk.new wt.new slots.new ≡ enter_all awake.now share.now len (take count order.now) (cleared plane) }
 {
     clear_slots(slots);
     let running = queue::clear(rk, rt);
@@ -528,8 +528,8 @@ pub fn join(
     a: Amount,
     below: bool,
 ) -> Lengths
-    requires fit { Joining (here plane n rk rt wk wt slots) a.0 }
-    ensures is { new plane result rk rt wk wt slots ≡ joins (first_idle plane.m slots.old) task a.0 below (old plane n rk rt wk wt slots) }
+    requires fit { Joining (work plane n rk.old rt.old wk.old wt.old slots.old) a.0 }
+    ensures is { work plane result rk.new rt.new wk.new wt.new slots.new ≡ joins (first_idle plane.m slots.old) task a.0 below (work plane n rk.old rt.old wk.old wt.old slots.old) }
 {
     let p = lowest_idle(slots, plane.m);
     if p == 0 {

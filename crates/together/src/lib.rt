@@ -2,7 +2,7 @@
 #![tactic(auto)]
 
 ghost use Rattle.std.specs.Prelude.{◌≡◌};
-ghost use Rattle.queue.specs.Lent.{old};
+ghost use Rattle.queue.specs.Lent.{at};
 ghost use Rattle.together_rows.specs.Tables.{table_of};
 ghost use Rattle.together.specs.Holds.{state_of, holds_of};
 
@@ -35,7 +35,7 @@ pub fn holds_lent(
     slots: &[u16; 16],
 ) -> bool
     ensures is { result ≡ holds_of (state_of (table_of period.now exec.now deadline.now share.now order.now count m scale)
-        present.0 going end awake.now arrived.now last.now (old rk rt rn) (old wk wt wn) slots.now) }
+        present.0 going end awake.now arrived.now last.now (at rk.now rt.now rn) (at wk.now wt.now wn) slots.now) }
 {
     let front = table_ok(
         period, exec, deadline, share, count, m, scale, present, going, end, arrived, awake, last,

@@ -2,7 +2,7 @@
 #![tactic(auto)]
 
 ghost use Rattle.std.specs.Prelude.{◌≡◌, Bool, true, ◌&&◌, ◌||◌, List, ℕ, ◌+◌, ◌-◌, ◌*◌, ◌%◌, ◌≤◌, ◌<◌, leb, ltb, eqb, length, get_or, take};
-ghost use Rattle.queue.specs.Lent.{at, old};
+ghost use Rattle.queue.specs.Lent.{at};
 ghost use Rattle.queue.specs.Queues.{stands_of};
 ghost use Rattle.rules.specs.Bounds.{most_scale};
 ghost use Rattle.state.specs.Sound.{no_marks, fresh, mark, all_fresh, all_marked, run_ok, runs_ok, slots_ok, sound_by};
@@ -183,7 +183,7 @@ fn entries_ok(
     marks: &mut [bool; 128],
 ) -> Held
     requires inside { (n ≤ 128) × (count ≤ 128) × (top ≤ present.0 + longest * most_scale) }
-    ensures is { (result.ok ≡ stands_of (old keys tasks n) && (all_fresh count ok.now (take n tasks.now) marks.old
+    ensures is { (result.ok ≡ stands_of (at keys.now tasks.now n) && (all_fresh count ok.now (take n tasks.now) marks.old
         && keys_ok present.0 top keys.now tasks.now n))
         × (result.ok ≡ true → (marks.new ≡ all_marked (take n tasks.now) marks.old) × (result.sum ≡ run_sum present.0 keys.now n)) }
 {
@@ -246,7 +246,7 @@ pub fn closed_ok(
     slots: &[u16; 16],
 ) -> bool
     requires small { (count ≤ 128) × (m ≤ 16) × (0 < scale) }
-    ensures is { (end : ℕ) (awake : List Bool) (wk wt : List ℕ) → result ≡ sound_by count m present.0 end awake (old rk rt rn) (at wk wt wn) slots.now
+    ensures is { (end : ℕ) (awake : List Bool) (wk wt : List ℕ) → result ≡ sound_by count m present.0 end awake (at rk.now rt.now rn) (at wk wt wn) slots.now
         && (eqb (present.0 % scale) 0 && (eqb rn 0 && eqb wn 0)) }
 {
     if present.0 % scale != 0 {
@@ -280,7 +280,7 @@ pub fn open_ok(
     slots: &[u16; 16],
 ) -> bool
     requires small { Soon shares count m scale present.0 end }
-    ensures is { result ≡ sound_by count m present.0 (end * scale) awake.now (old rk rt rn) (old wk wt wn) slots.now
+    ensures is { result ≡ sound_by count m present.0 (end * scale) awake.now (at rk.now rt.now rn) (at wk.now wt.now wn) slots.now
         && (ltb present.0 (end * scale) && amounts_ok shares m scale present.0 (end * scale) rk.now rn wk.now wn) }
 {
     let close = Instant(end * scale);
