@@ -1,10 +1,9 @@
 -- ADMISSION INTO LENT ARRAYS
 use Rattle.std.specs.Prelude.{Bool, false, List, ℕ}
-use Rattle.ground.specs.Lent.{Lent}
 use Rattle.admission.specs.declared.Outcome.{Outcome}
 use Rattle.moves.specs.declared.Terms.{Terms}
 use Rattle.moves.specs.declared.Moment.{Moment}
-use Rattle.moves.specs.Lent.{state_in, Marks}
+use Rattle.moves.specs.Lent.{state_in}
 use Rattle.admission.specs.declared.Admitted.{Admitted}
 
 -- the numbers of the table
@@ -19,9 +18,3 @@ start = record { now = record { 0 = 0 }; going = false; end_tick = 0; lengths = 
 abbrev pub admitted_in : Outcome → List ℕ → List ℕ → List ℕ → List ℕ → List ℕ → List Bool → List Bool → List ℕ → List ℕ → List ℕ → List ℕ → List ℕ → List ℕ → Admitted
 admitted_in r period exec deadline share order awake arrived last rk rt wk wt slots =
     record { answer = r.answer; row = r.row; state = state_in (terms_of r) start period exec deadline share order awake arrived last rk rt wk wt slots }
-
--- with the arrays as the function returns
-abbrev pub new : Outcome → Lent → Lent → Lent → Lent → Lent → Marks → Marks → Lent → Lent → Lent → Lent → Lent → Lent → Admitted
-new r period exec deadline share order awake arrived last rk rt wk wt slots =
-    admitted_in r period.exit.now exec.exit.now deadline.exit.now share.exit.now order.exit.now
-    awake.exit.now arrived.exit.now last.exit.now rk.exit.now rt.exit.now wk.exit.now wt.exit.now slots.exit.now

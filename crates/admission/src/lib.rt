@@ -4,10 +4,11 @@
 ghost use Rattle.std.specs.Prelude.{◌≡◌, false, ◌*◌, ◌≤◌, length, replicate};
 ghost use Rattle.rules.specs.Table.{rows_of};
 ghost use Rattle.rules.specs.Admission.{rows_verdict, size_verdict};
+ghost use Rattle.table.specs.Rows.{rows_held};
 ghost use Rattle.table.specs.Tabled.{refusal, tabled_by, tabled_of};
-ghost use Rattle.admission.specs.Tables.{new_table, rows_old, Rowed};
+ghost use Rattle.admission.specs.Tables.{tabled_in, Rowed};
 ghost use Rattle.admission.specs.Admit.{admit_of};
-ghost use Rattle.admission.specs.Lent.{new};
+ghost use Rattle.admission.specs.Lent.{admitted_in};
 
 use ground::Instant;
 use queue::Queue;
@@ -45,7 +46,7 @@ fn refused(
     share: &mut [u64; 128],
     order: &mut [u16; 128],
 ) -> Outcome
-    ensures is { new_table result period exec deadline share order ≡ refusal answer row }
+    ensures is { tabled_in result period.new exec.new deadline.new share.new order.new ≡ refusal answer row }
 {
     *period = [0; 128];
     *exec = [0; 128];
@@ -72,7 +73,7 @@ fn sized(
     order: &mut [u16; 128],
 ) -> Outcome
     requires inside { (m ≤ 16) × (count ≤ 128) × Rowed period.old exec.old deadline.old count }
-    ensures is { new_table result period exec deadline share order ≡ tabled_by (size_verdict m (rows_old period exec deadline count)) m (rows_old period exec deadline count) }
+    ensures is { tabled_in result period.new exec.new deadline.new share.new order.new ≡ tabled_by (size_verdict m (rows_held period.old exec.old deadline.old count)) m (rows_held period.old exec.old deadline.old count) }
 {
     let l = table::scale(period, deadline, count);
     if l == 0 {
@@ -104,7 +105,7 @@ fn read(
     order: &mut [u16; 128],
 ) -> Outcome
     requires inside { (m ≤ 16) × (count ≤ 128) × (length bytes.now ≡ 12 * count) }
-    ensures is { new_table result period exec deadline share order ≡ tabled_by (rows_verdict m (rows_of bytes.now)) m (rows_of bytes.now) }
+    ensures is { tabled_in result period.new exec.new deadline.new share.new order.new ≡ tabled_by (rows_verdict m (rows_of bytes.now)) m (rows_of bytes.now) }
 {
     table::column(bytes, 0, period, count);
     table::column(bytes, 4, exec, count);
@@ -128,7 +129,7 @@ fn admit_table(
     share: &mut [u64; 128],
     order: &mut [u16; 128],
 ) -> Outcome
-    ensures is { new_table result period exec deadline share order ≡ tabled_of bytes.now m }
+    ensures is { tabled_in result period.new exec.new deadline.new share.new order.new ≡ tabled_of bytes.now m }
 {
     if !table::processors_ok(m) {
         return refused(Answer::Processors, 0, period, exec, deadline, share, order);
@@ -178,7 +179,7 @@ pub fn admit_lent(
     wt: &mut [u16; 128],
     slots: &mut [u16; 16],
 ) -> Outcome
-    ensures is { new result period exec deadline share order awake arrived last rk rt wk wt slots ≡ admit_of bytes.now m }
+    ensures is { admitted_in result period.new exec.new deadline.new share.new order.new awake.new arrived.new last.new rk.new rt.new wk.new wt.new slots.new ≡ admit_of bytes.now m }
 {
     clear_jobs(awake, arrived, last);
     queue::clear(rk, rt);

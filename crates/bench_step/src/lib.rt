@@ -4,10 +4,10 @@
 
 ghost use Rattle.std.specs.Prelude.{◌≡◌, ℕ, ◌*◌, ◌<◌, ◌≤◌, length};
 ghost use Rattle.moves.specs.Whole.{Whole};
-ghost use Rattle.moves.specs.Lent.{old};
+ghost use Rattle.moves.specs.Lent.{state_in};
 ghost use Rattle.together.specs.Holds.{holds_of};
 ghost use Rattle.admission.specs.Admit.{admit_of};
-ghost use Rattle.bench_step.specs.Moments.{terms_of, moment_of, moment_here, moment_old, moment_new, in_call, by_call};
+ghost use Rattle.bench_step.specs.Moments.{terms_of, moment_of, in_call, by_call};
 ghost use Rattle.bench_step.specs.Held.{Taken, done_of, AllTaken, done_all};
 ghost use Rattle.bench_step.specs.Made.{made_all, EndsAt};
 ghost use Rattle.text.specs.Puts.{Put};
@@ -37,8 +37,12 @@ fn held_call(
     slots: &mut [u16; 16],
     room: &mut [u8],
 ) -> Moment
-    requires taken { (48 ≤ length room.old) × in_call (λ s. Whole s × Taken s call) terms moment period deadline share order awake arrived last rk rt wk wt slots }
-    ensures is { (length room.new ≡ length room.old) × by_call (λ s k. k ≡ done_of s call) terms moment result period deadline share order awake arrived last rk rt wk wt slots }
+    requires taken { (48 ≤ length room.old) × in_call (λ s. Whole s × Taken s call) terms moment
+        period.now deadline.now share.now order.now awake.old arrived.old last.old rk.old rt.old wk.old wt.old slots.old }
+    ensures is { (length room.new ≡ length room.old) × by_call (λ s k. k ≡ done_of s call) terms moment result
+        period.now deadline.now share.now order.now
+        awake.old arrived.old last.old rk.old rt.old wk.old wt.old slots.old
+        awake.new arrived.new last.new rk.new rt.new wk.new wt.new slots.new }
 {
     if call < 4294967296 {
         let i = (call - 1) as usize;
@@ -79,10 +83,12 @@ pub extern "C" fn held_calls(
     slots: &mut [u16; 16],
     room: &mut [u8],
 )
-    requires taken { (48 ≤ length room.old) × in_call (λ s. Whole s × AllTaken s list.now) (terms_of count m scale) (moment_here present going end running waiting)
-        period deadline share order awake arrived last rk rt wk wt slots }
-    ensures is { by_call (λ s k. (Whole s → AllTaken s list.now → k ≡ done_all s list.now)) (terms_of count m scale)
-        (moment_old present going end running waiting) (moment_new present going end running waiting) period deadline share order awake arrived last rk rt wk wt slots }
+    requires taken { (48 ≤ length room.old) × in_call (λ s. Whole s × AllTaken s list.now) (terms_of count m scale) (moment_of present.old going.old end.old running.old waiting.old)
+        period.now deadline.now share.now order.now awake.old arrived.old last.old rk.old rt.old wk.old wt.old slots.old }
+    ensures is { by_call (λ s k. (Whole s → AllTaken s list.now → k ≡ done_all s list.now)) (terms_of count m scale) (moment_of present.old going.old end.old running.old waiting.old) (moment_of present.new going.new end.new running.new waiting.new)
+        period.now deadline.now share.now order.now
+        awake.old arrived.old last.old rk.old rt.old wk.old wt.old slots.old
+        awake.new arrived.new last.new rk.new rt.new wk.new wt.new slots.new }
 {
     let terms = Terms {
         count: count,
@@ -150,7 +156,7 @@ pub extern "C" fn held_check(
     wt: &[u16; 128],
     slots: &[u16; 16],
 ) -> bool
-    ensures is { result ≡ holds_of (old (terms_of count m scale) (moment_of present going end running waiting) period exec deadline share order awake arrived last rk rt wk wt slots) }
+    ensures is { result ≡ holds_of (state_in (terms_of count m scale) (moment_of present going end running waiting) period.now exec.now deadline.now share.now order.now awake.now arrived.now last.now rk.now rt.now wk.now wt.now slots.now) }
 {
     together::holds_lent(
         period,

@@ -1,4 +1,3 @@
-pub mod Lent
 pub mod Arrive
 pub mod Step
 pub mod Run

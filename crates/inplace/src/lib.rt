@@ -5,8 +5,7 @@ ghost use Rattle.std.specs.Prelude.{◌≡◌, true, length};
 ghost use Rattle.rules.specs.Answers.{is_done};
 ghost use Rattle.refusals.specs.Arrive.{arrive_answer_of};
 ghost use Rattle.refusals.specs.Step.{step_answer_of, Ahead};
-ghost use Rattle.moves.specs.Lent.{old};
-ghost use Rattle.inplace.specs.Lent.{after_arrival, after_step};
+ghost use Rattle.moves.specs.Lent.{state_in};
 ghost use Rattle.inplace.specs.Arrive.{arrive_state_of};
 ghost use Rattle.inplace.specs.Step.{step_state_of, step_room};
 ghost use Rattle.inplace.specs.Run.{goes_on, run_state_of, run_records_of, run_room};
@@ -49,9 +48,9 @@ pub fn arrive(
     wt: &mut [u16; 128],
     slots: &mut [u16; 16],
 ) -> Answered
-    ensures is { (result.answer ≡ arrive_answer_of (old terms moment period exec deadline share order awake arrived last rk rt wk wt slots) task)
-        × (after_arrival terms result.moment period exec deadline share order awake arrived last rk rt wk wt slots
-        ≡ arrive_state_of (old terms moment period exec deadline share order awake arrived last rk rt wk wt slots) task) }
+    ensures is { (result.answer ≡ arrive_answer_of (state_in terms moment period.now exec.now deadline.now share.now order.now awake.old arrived.old last.old rk.old rt.old wk.old wt.old slots.old) task)
+        × (state_in terms result.moment period.now exec.now deadline.now share.now order.now awake.new arrived.new last.new rk.new rt.new wk.new wt.new slots.new
+        ≡ arrive_state_of (state_in terms moment period.now exec.now deadline.now share.now order.now awake.old arrived.old last.old rk.old rt.old wk.old wt.old slots.old) task) }
 {
     if !refusals::check(
         terms, moment, period, exec, deadline, share, order, awake, arrived, last, rk, rt, wk, wt,
@@ -110,10 +109,10 @@ pub fn step(
     slots: &mut [u16; 16],
     room: &mut [u8],
 ) -> Answered
-    ensures is { (result.answer ≡ step_answer_of (old terms moment period exec deadline share order awake arrived last rk rt wk wt slots) horizon (length room.old))
-        × (after_step terms result.moment period exec deadline share order awake arrived last rk rt wk wt slots
-        ≡ step_state_of (old terms moment period exec deadline share order awake arrived last rk rt wk wt slots) horizon (length room.old))
-        × (room.new ≡ step_room (old terms moment period exec deadline share order awake arrived last rk rt wk wt slots) horizon room.old) }
+    ensures is { (result.answer ≡ step_answer_of (state_in terms moment period.now exec.now deadline.now share.now order.now awake.old arrived.now last.now rk.old rt.old wk.old wt.old slots.old) horizon (length room.old))
+        × (state_in terms result.moment period.now exec.now deadline.now share.now order.now awake.new arrived.now last.now rk.new rt.new wk.new wt.new slots.new
+        ≡ step_state_of (state_in terms moment period.now exec.now deadline.now share.now order.now awake.old arrived.now last.now rk.old rt.old wk.old wt.old slots.old) horizon (length room.old))
+        × (room.new ≡ step_room (state_in terms moment period.now exec.now deadline.now share.now order.now awake.old arrived.now last.now rk.old rt.old wk.old wt.old slots.old) horizon room.old) }
 {
     if !refusals::check(
         terms, moment, period, exec, deadline, share, order, awake, arrived, last, rk, rt, wk, wt,
@@ -172,13 +171,13 @@ pub fn run(
     slots: &mut [u16; 16],
     room: &mut [u8],
 ) -> Advanced
-    ensures is { (result.answer ≡ step_answer_of (old terms moment period exec deadline share order awake arrived last rk rt wk wt slots) horizon (length room.old))
-        × (after_step terms result.moment period exec deadline share order awake arrived last rk rt wk wt slots
-        ≡ run_state_of (old terms moment period exec deadline share order awake arrived last rk rt wk wt slots) horizon (length room.old))
-        × (result.records ≡ run_records_of (old terms moment period exec deadline share order awake arrived last rk rt wk wt slots) horizon (length room.old))
-        × (room.new ≡ run_room (old terms moment period exec deadline share order awake arrived last rk rt wk wt slots) horizon room.old) }
+    ensures is { (result.answer ≡ step_answer_of (state_in terms moment period.now exec.now deadline.now share.now order.now awake.old arrived.now last.now rk.old rt.old wk.old wt.old slots.old) horizon (length room.old))
+        × (state_in terms result.moment period.now exec.now deadline.now share.now order.now awake.new arrived.now last.now rk.new rt.new wk.new wt.new slots.new
+        ≡ run_state_of (state_in terms moment period.now exec.now deadline.now share.now order.now awake.old arrived.now last.now rk.old rt.old wk.old wt.old slots.old) horizon (length room.old))
+        × (result.records ≡ run_records_of (state_in terms moment period.now exec.now deadline.now share.now order.now awake.old arrived.now last.now rk.old rt.old wk.old wt.old slots.old) horizon (length room.old))
+        × (room.new ≡ run_room (state_in terms moment period.now exec.now deadline.now share.now order.now awake.old arrived.now last.now rk.old rt.old wk.old wt.old slots.old) horizon room.old) }
     ensures ahead { is_done result.answer ≡ true
-        → Ahead (old terms moment period exec deadline share order awake arrived last rk rt wk wt slots) horizon (length room.old) }
+        → Ahead (state_in terms moment period.now exec.now deadline.now share.now order.now awake.old arrived.now last.now rk.old rt.old wk.old wt.old slots.old) horizon (length room.old) }
 {
     if !refusals::check(
         terms, moment, period, exec, deadline, share, order, awake, arrived, last, rk, rt, wk, wt,

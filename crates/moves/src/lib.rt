@@ -7,7 +7,7 @@ ghost use Rattle.state.specs.Machine.{work_of, opened_of, move_to, moved_of, arr
 ghost use Rattle.state.specs.Work.{next_of};
 ghost use Rattle.state.specs.View.{view};
 ghost use Rattle.moves.specs.Whole.{Whole, Settles, Writes};
-ghost use Rattle.moves.specs.Lent.{still, in_step, by_step, in_plane, by_plane, in_arrival, by_arrival};
+ghost use Rattle.moves.specs.Lent.{in_step, by_step, in_plane, by_plane, in_arrival, by_arrival};
 ghost use Rattle.rules.specs.Bounds.{clock};
 
 use ground::{Amount, Instant};
@@ -46,8 +46,12 @@ fn open_in(
     wt: &mut [u16; 128],
     slots: &mut [u16; 16],
 ) -> Moment
-    requires whole { in_step Whole terms moment period deadline share order awake last rk rt wk wt slots }
-    ensures is { by_step (λ s k. k ≡ opened_of s) terms moment result period deadline share order (still awake) last rk rt wk wt slots }
+    requires whole { in_step Whole terms moment
+        period.now deadline.now share.now order.now awake.now last.now rk.old rt.old wk.old wt.old slots.old }
+    ensures is { by_step (λ s k. k ≡ opened_of s) terms moment result
+        period.now deadline.now share.now order.now last.now
+        awake.now rk.old rt.old wk.old wt.old slots.old
+        awake.now rk.new rt.new wk.new wt.new slots.new }
 {
     if moment.going {
         return moment;
@@ -98,8 +102,12 @@ fn settle_in(
     wt: &mut [u16; 128],
     slots: &mut [u16; 16],
 ) -> Moment
-    requires next { in_plane (λ s. Settles s to.0) terms moment period deadline awake last rk rt wk wt slots }
-    ensures is { by_plane (λ s k. k ≡ (move_to s to.0).state) terms moment result period deadline awake last rk rt wk wt slots }
+    requires next { in_plane (λ s. Settles s to.0) terms moment
+        period.now deadline.now awake.old last.now rk.old rt.old wk.old wt.old slots.old }
+    ensures is { by_plane (λ s k. k ≡ (move_to s to.0).state) terms moment result
+        period.now deadline.now last.now
+        awake.old rk.old rt.old wk.old wt.old slots.old
+        awake.new rk.new rt.new wk.new wt.new slots.new }
 {
     let close = Instant(moment.end_tick * terms.scale);
     if to.0 == close.0 {
@@ -146,9 +154,12 @@ fn move_in(
     slots: &mut [u16; 16],
     room: &mut [u8],
 ) -> Moment
-    requires ready { (48 ≤ length room.old) × in_plane (λ s. Whole s × (s.going ≡ true) × (s.now.0 < stop.0)) terms moment period deadline awake last rk rt wk wt slots }
-    ensures is { by_plane (λ s k. Writes (move_to s (next_of (work_of s) stop.0)) k room.old room.new)
-        terms moment result period deadline awake last rk rt wk wt slots }
+    requires ready { (48 ≤ length room.old) × in_plane (λ s. Whole s × (s.going ≡ true) × (s.now.0 < stop.0)) terms moment
+        period.now deadline.now awake.old last.now rk.old rt.old wk.old wt.old slots.old }
+    ensures is { by_plane (λ s k. Writes (move_to s (next_of (work_of s) stop.0)) k room.old room.new) terms moment result
+        period.now deadline.now last.now
+        awake.old rk.old rt.old wk.old wt.old slots.old
+        awake.new rk.new rt.new wk.new wt.new slots.new }
 {
     let present = moment.now;
     let close = Instant(moment.end_tick * terms.scale);
@@ -178,8 +189,12 @@ pub fn step_in(
     room: &mut [u8],
 ) -> Moment
     requires ready { (48 ≤ length room.old) × (horizon ≤ clock)
-        × in_step (λ s. Whole s × (s.now.0 < horizon * s.table.scale)) terms moment period deadline share order awake last rk rt wk wt slots }
-    ensures is { by_step (λ s k. Writes (moved_of s horizon) k room.old room.new) terms moment result period deadline share order awake last rk rt wk wt slots }
+        × in_step (λ s. Whole s × (s.now.0 < horizon * s.table.scale)) terms moment
+        period.now deadline.now share.now order.now awake.old last.now rk.old rt.old wk.old wt.old slots.old }
+    ensures is { by_step (λ s k. Writes (moved_of s horizon) k room.old room.new) terms moment result
+        period.now deadline.now share.now order.now last.now
+        awake.old rk.old rt.old wk.old wt.old slots.old
+        awake.new rk.new rt.new wk.new wt.new slots.new }
 {
     let stop = Instant(horizon * terms.scale);
     let opened = open_in(
@@ -205,8 +220,12 @@ pub fn arrive_in(
     wt: &mut [u16; 128],
     slots: &mut [u16; 16],
 ) -> Moment
-    requires ready { in_arrival (λ s. Whole s × Comes (view s) i) terms moment share awake arrived last rk rt wk wt slots }
-    ensures is { by_arrival (λ s k. k ≡ arrived_of s i) terms moment result share awake arrived last rk rt wk wt slots }
+    requires ready { in_arrival (λ s. Whole s × Comes (view s) i) terms moment
+        share.now awake.old arrived.old last.old rk.old rt.old wk.old wt.old slots.old }
+    ensures is { by_arrival (λ s k. k ≡ arrived_of s i) terms moment result
+        share.now
+        awake.old arrived.old last.old rk.old rt.old wk.old wt.old slots.old
+        awake.new arrived.new last.new rk.new rt.new wk.new wt.new slots.new }
 {
     let present = moment.now;
     let tick = present.0 / terms.scale;

@@ -3,7 +3,7 @@
 
 ghost use Rattle.std.specs.Prelude.{◌≡◌, ◌+◌, ◌≤◌, ltb};
 ghost use Rattle.rules.specs.Bounds.{clock, most_scale};
-ghost use Rattle.moves.specs.Lent.{old};
+ghost use Rattle.moves.specs.Lent.{state_in};
 ghost use Rattle.refusals.specs.Check.{Checked};
 ghost use Rattle.refusals.specs.Arrive.{comes_by, Dated};
 ghost use Rattle.refusals.specs.Step.{moves_by};
@@ -30,7 +30,7 @@ pub fn check(
     wt: &[u16; 128],
     slots: &[u16; 16],
 ) -> bool
-    ensures is { Checked (old terms moment period exec deadline share order awake arrived last rk rt wk wt slots) result }
+    ensures is { Checked (state_in terms moment period.now exec.now deadline.now share.now order.now awake.now arrived.now last.now rk.now rt.now wk.now wt.now slots.now) result }
 {
     ground::measure16(order);
     ground::measure_flags(awake);

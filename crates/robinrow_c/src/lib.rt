@@ -3,7 +3,7 @@
 
 ghost use Rattle.std.specs.Prelude.{◌≡◌, ◌&&◌, leb};
 ghost use Rattle.admission.specs.Admit.{admit_of};
-ghost use Rattle.robinrow_c.specs.Lent.{admitted, before_arrival, after_arrival, before_step, after_step};
+ghost use Rattle.robinrow_c.specs.Lent.{struct_in};
 ghost use Rattle.robinrow_c.specs.Exports.{admit_number, admit_struct, arrive_number, arrive_struct, step_number, step_struct, step_record, run_number, run_count, run_struct, run_records};
 
 use ground::Instant;
@@ -50,7 +50,7 @@ pub extern "C" fn robinrow_admit_in(
     slots: &mut [u16; 16],
 ) -> u32
     ensures is { (result ≡ admit_number bytes.now processors) × (row.new ≡ (admit_of bytes.now processors).row)
-        × (admitted count m scale present going end running waiting period exec deadline share order awake arrived last rk rt wk wt slots ≡ admit_struct bytes.now processors) }
+        × (struct_in count.new m.new scale.new present.new going.new end.new running.new waiting.new period.new exec.new deadline.new share.new order.new awake.new arrived.new last.new rk.new rt.new wk.new wt.new slots.new ≡ admit_struct bytes.now processors) }
 {
     let mut is_awake = [false; 128];
     let mut has_come = [false; 128];
@@ -112,9 +112,9 @@ pub extern "C" fn robinrow_arrive_in(
     wt: &mut [u16; 128],
     slots: &mut [u16; 16],
 ) -> u32
-    ensures is { (result ≡ arrive_number (before_arrival count m scale present going end running waiting period exec deadline share order awake arrived last rk rt wk wt slots) task)
-        × (after_arrival count m scale present going end running waiting period exec deadline share order awake arrived last rk rt wk wt slots
-        ≡ arrive_struct (before_arrival count m scale present going end running waiting period exec deadline share order awake arrived last rk rt wk wt slots) task) }
+    ensures is { (result ≡ arrive_number (struct_in count m scale present going end running.old waiting.old period.now exec.now deadline.now share.now order.now awake.old arrived.old last.old rk.old rt.old wk.old wt.old slots.old) task)
+        × (struct_in count m scale present going end running.new waiting.new period.now exec.now deadline.now share.now order.now awake.new arrived.new last.new rk.new rt.new wk.new wt.new slots.new
+        ≡ arrive_struct (struct_in count m scale present going end running.old waiting.old period.now exec.now deadline.now share.now order.now awake.old arrived.old last.old rk.old rt.old wk.old wt.old slots.old) task) }
 {
     let mut is_awake = [false; 128];
     let mut has_come = [false; 128];
@@ -194,11 +194,11 @@ pub extern "C" fn robinrow_step_in(
     slots: &mut [u16; 16],
     room: &mut [u8],
 ) -> u32
-    ensures is { (result ≡ step_number (before_step count m scale present going end running waiting period exec deadline share order awake arrived last rk rt wk wt slots) horizon room.old)
-        × (after_step count m scale present going end running waiting period exec deadline share order awake arrived last rk rt wk wt slots
-        ≡ step_struct (before_step count m scale present going end running waiting period exec deadline share order awake arrived last rk rt wk wt slots) horizon room.old)
+    ensures is { (result ≡ step_number (struct_in count m scale present.old going.old end.old running.old waiting.old period.now exec.now deadline.now share.now order.now awake.old arrived.now last.now rk.old rt.old wk.old wt.old slots.old) horizon room.old)
+        × (struct_in count m scale present.new going.new end.new running.new waiting.new period.now exec.now deadline.now share.now order.now awake.new arrived.now last.now rk.new rt.new wk.new wt.new slots.new
+        ≡ step_struct (struct_in count m scale present.old going.old end.old running.old waiting.old period.now exec.now deadline.now share.now order.now awake.old arrived.now last.now rk.old rt.old wk.old wt.old slots.old) horizon room.old)
         × (room.new
-        ≡ step_record (before_step count m scale present going end running waiting period exec deadline share order awake arrived last rk rt wk wt slots) horizon room.old) }
+        ≡ step_record (struct_in count m scale present.old going.old end.old running.old waiting.old period.now exec.now deadline.now share.now order.now awake.old arrived.now last.now rk.old rt.old wk.old wt.old slots.old) horizon room.old) }
 {
     let mut is_awake = [false; 128];
     let mut has_come = [false; 128];
@@ -283,13 +283,13 @@ pub extern "C" fn robinrow_run_in(
     room: &mut [u8],
     records: &mut usize,
 ) -> u32
-    ensures is { (result ≡ run_number (before_step count m scale present going end running waiting period exec deadline share order awake arrived last rk rt wk wt slots) horizon room.old)
-        × (after_step count m scale present going end running waiting period exec deadline share order awake arrived last rk rt wk wt slots
-        ≡ run_struct (before_step count m scale present going end running waiting period exec deadline share order awake arrived last rk rt wk wt slots) horizon room.old)
+    ensures is { (result ≡ run_number (struct_in count m scale present.old going.old end.old running.old waiting.old period.now exec.now deadline.now share.now order.now awake.old arrived.now last.now rk.old rt.old wk.old wt.old slots.old) horizon room.old)
+        × (struct_in count m scale present.new going.new end.new running.new waiting.new period.now exec.now deadline.now share.now order.now awake.new arrived.now last.now rk.new rt.new wk.new wt.new slots.new
+        ≡ run_struct (struct_in count m scale present.old going.old end.old running.old waiting.old period.now exec.now deadline.now share.now order.now awake.old arrived.now last.now rk.old rt.old wk.old wt.old slots.old) horizon room.old)
         × (records.new
-        ≡ run_count (before_step count m scale present going end running waiting period exec deadline share order awake arrived last rk rt wk wt slots) horizon room.old)
+        ≡ run_count (struct_in count m scale present.old going.old end.old running.old waiting.old period.now exec.now deadline.now share.now order.now awake.old arrived.now last.now rk.old rt.old wk.old wt.old slots.old) horizon room.old)
         × (room.new
-        ≡ run_records (before_step count m scale present going end running waiting period exec deadline share order awake arrived last rk rt wk wt slots) horizon room.old) }
+        ≡ run_records (struct_in count m scale present.old going.old end.old running.old waiting.old period.now exec.now deadline.now share.now order.now awake.old arrived.now last.now rk.old rt.old wk.old wt.old slots.old) horizon room.old) }
 {
     let mut is_awake = [false; 128];
     let mut has_come = [false; 128];

@@ -27,7 +27,7 @@ use Rattle.queue.proofs.Keys.{none_empty, empty_good, push_len}
 use Rattle.state.specs.Machine.{work_of, shorter_at, limit_at, least_limit, plane_end, begun, opens_to}
 use Rattle.state.specs.View.{cond_of, cond_in, job_at, view, Sound}
 use Rattle.state.specs.Work as Works
-use Rattle.state.specs.Work.{Work, park, place, enter_row, enter_all}
+use Rattle.state.specs.Work.{Work, seat, park, place, enter_row, enter_all}
 use Rattle.state.proofs.Closing.{empty_tidy}
 use Rattle.state.proofs.Counts.{runs_len}
 use Rattle.rules.proofs.Falling.{falling_most, falling_low}
@@ -204,9 +204,11 @@ begun_is s l I idle e =
             size = I.shows.size;
             each = λ i hi.
                 let o = in_no_queue I i hi (idle i) in
+                let w = work_of s in
+                let k = work_of (begun s e) in
                 I.shows.each i hi
                 ∙ ap (λ (d : Cond). be d (job_at s.table s.jobs i))
-                (rw (o.0, o.1, none_empty empty_queue refl (suc i)) (idle_cond _ _ _ _ _ _ (get_or s.jobs.awake i false)));
+                (rw (o.0, o.1, none_empty empty_queue refl (suc i)) (idle_cond w.now k.now w.end k.end (seat (suc i) w.slots) (seat (suc i) k.slots) (get_or s.jobs.awake i false)));
           };
     }
 
