@@ -73,7 +73,8 @@ fn sized(
     order: &mut [u16; 128],
 ) -> Outcome
     requires inside { (m ≤ 16) × (count ≤ 128) × Rowed period.old exec.old deadline.old count }
-    ensures is { tabled_in result period.new exec.new deadline.new share.new order.new ≡ tabled_by (size_verdict m (rows_held period.old exec.old deadline.old count)) m (rows_held period.old exec.old deadline.old count) }
+    ensures is { let rows = rows_held period.old exec.old deadline.old count in
+        tabled_in result period.new exec.new deadline.new share.new order.new ≡ tabled_by (size_verdict m rows) m rows }
 {
     let l = table::scale(period, deadline, count);
     if l == 0 {

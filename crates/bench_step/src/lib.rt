@@ -83,9 +83,11 @@ pub extern "C" fn held_calls(
     slots: &mut [u16; 16],
     room: &mut [u8],
 )
-    requires taken { (48 ≤ length room.old) × in_call (λ s. Whole s × AllTaken s list.now) (terms_of count m scale) (moment_of present.old going.old end.old running.old waiting.old)
+    requires taken { (48 ≤ length room.old) × in_call (λ s. Whole s × AllTaken s list.now) (terms_of count m scale)
+        (moment_of present.old going.old end.old running.old waiting.old)
         period.now deadline.now share.now order.now awake.old arrived.old last.old rk.old rt.old wk.old wt.old slots.old }
-    ensures is { by_call (λ s k. (Whole s → AllTaken s list.now → k ≡ done_all s list.now)) (terms_of count m scale) (moment_of present.old going.old end.old running.old waiting.old) (moment_of present.new going.new end.new running.new waiting.new)
+    ensures is { by_call (λ s k. (Whole s → AllTaken s list.now → k ≡ done_all s list.now)) (terms_of count m scale)
+        (moment_of present.old going.old end.old running.old waiting.old) (moment_of present.new going.new end.new running.new waiting.new)
         period.now deadline.now share.now order.now
         awake.old arrived.old last.old rk.old rt.old wk.old wt.old slots.old
         awake.new arrived.new last.new rk.new rt.new wk.new wt.new slots.new }
@@ -156,7 +158,8 @@ pub extern "C" fn held_check(
     wt: &[u16; 128],
     slots: &[u16; 16],
 ) -> bool
-    ensures is { result ≡ holds_of (state_in (terms_of count m scale) (moment_of present going end running waiting) period.now exec.now deadline.now share.now order.now awake.now arrived.now last.now rk.now rt.now wk.now wt.now slots.now) }
+    ensures is { result ≡ holds_of (state_in (terms_of count m scale) (moment_of present going end running waiting)
+        period.now exec.now deadline.now share.now order.now awake.now arrived.now last.now rk.now rt.now wk.now wt.now slots.now) }
 {
     together::holds_lent(
         period,

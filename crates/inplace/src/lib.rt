@@ -48,9 +48,10 @@ pub fn arrive(
     wt: &mut [u16; 128],
     slots: &mut [u16; 16],
 ) -> Answered
-    ensures is { (result.answer ≡ arrive_answer_of (state_in terms moment period.now exec.now deadline.now share.now order.now awake.old arrived.old last.old rk.old rt.old wk.old wt.old slots.old) task)
+    ensures is { let s = state_in terms moment period.now exec.now deadline.now share.now order.now awake.old arrived.old last.old rk.old rt.old wk.old wt.old slots.old in
+        (result.answer ≡ arrive_answer_of s task)
         × (state_in terms result.moment period.now exec.now deadline.now share.now order.now awake.new arrived.new last.new rk.new rt.new wk.new wt.new slots.new
-        ≡ arrive_state_of (state_in terms moment period.now exec.now deadline.now share.now order.now awake.old arrived.old last.old rk.old rt.old wk.old wt.old slots.old) task) }
+        ≡ arrive_state_of s task) }
 {
     if !refusals::check(
         terms, moment, period, exec, deadline, share, order, awake, arrived, last, rk, rt, wk, wt,
@@ -109,10 +110,11 @@ pub fn step(
     slots: &mut [u16; 16],
     room: &mut [u8],
 ) -> Answered
-    ensures is { (result.answer ≡ step_answer_of (state_in terms moment period.now exec.now deadline.now share.now order.now awake.old arrived.now last.now rk.old rt.old wk.old wt.old slots.old) horizon (length room.old))
+    ensures is { let s = state_in terms moment period.now exec.now deadline.now share.now order.now awake.old arrived.now last.now rk.old rt.old wk.old wt.old slots.old in
+        (result.answer ≡ step_answer_of s horizon (length room.old))
         × (state_in terms result.moment period.now exec.now deadline.now share.now order.now awake.new arrived.now last.now rk.new rt.new wk.new wt.new slots.new
-        ≡ step_state_of (state_in terms moment period.now exec.now deadline.now share.now order.now awake.old arrived.now last.now rk.old rt.old wk.old wt.old slots.old) horizon (length room.old))
-        × (room.new ≡ step_room (state_in terms moment period.now exec.now deadline.now share.now order.now awake.old arrived.now last.now rk.old rt.old wk.old wt.old slots.old) horizon room.old) }
+        ≡ step_state_of s horizon (length room.old))
+        × (room.new ≡ step_room s horizon room.old) }
 {
     if !refusals::check(
         terms, moment, period, exec, deadline, share, order, awake, arrived, last, rk, rt, wk, wt,
@@ -171,11 +173,12 @@ pub fn run(
     slots: &mut [u16; 16],
     room: &mut [u8],
 ) -> Advanced
-    ensures is { (result.answer ≡ step_answer_of (state_in terms moment period.now exec.now deadline.now share.now order.now awake.old arrived.now last.now rk.old rt.old wk.old wt.old slots.old) horizon (length room.old))
+    ensures is { let s = state_in terms moment period.now exec.now deadline.now share.now order.now awake.old arrived.now last.now rk.old rt.old wk.old wt.old slots.old in
+        (result.answer ≡ step_answer_of s horizon (length room.old))
         × (state_in terms result.moment period.now exec.now deadline.now share.now order.now awake.new arrived.now last.now rk.new rt.new wk.new wt.new slots.new
-        ≡ run_state_of (state_in terms moment period.now exec.now deadline.now share.now order.now awake.old arrived.now last.now rk.old rt.old wk.old wt.old slots.old) horizon (length room.old))
-        × (result.records ≡ run_records_of (state_in terms moment period.now exec.now deadline.now share.now order.now awake.old arrived.now last.now rk.old rt.old wk.old wt.old slots.old) horizon (length room.old))
-        × (room.new ≡ run_room (state_in terms moment period.now exec.now deadline.now share.now order.now awake.old arrived.now last.now rk.old rt.old wk.old wt.old slots.old) horizon room.old) }
+        ≡ run_state_of s horizon (length room.old))
+        × (result.records ≡ run_records_of s horizon (length room.old))
+        × (room.new ≡ run_room s horizon room.old) }
     ensures ahead { is_done result.answer ≡ true
         → Ahead (state_in terms moment period.now exec.now deadline.now share.now order.now awake.old arrived.now last.now rk.old rt.old wk.old wt.old slots.old) horizon (length room.old) }
 {
