@@ -20,10 +20,10 @@ loop-i-preserved c =
     let k = c.loop-i in
     let a = c.args in
     let f = c.put_line-at.ensures.is in
-    let t = records_turn k.out c.put_line-at.new.0 a.room.now k.at c.put_line-at.result a.m k.invariant.0 k.i (omega (arith, k.invariant.1)) (omega (arith, f.0.1, f.1, k.invariant.1, k.invariant.2, k.invariant.3, c.requires.room.2)) f.0 in (
+    let t = records_turn k.out c.put_line-at.new.out a.room.now k.at c.put_line-at.result a.m k.invariant.0 k.i (omega (arith, k.invariant.1)) (omega (arith, f.0.1, f.1, k.invariant.1, k.invariant.2, k.invariant.3, c.requires.room.2)) f.0 in (
       t.0,
       omega (arith, t.1, k.invariant.1),
-      c.put_line-at.auto.0 ∙ k.invariant.2,
+      c.put_line-at.auto.out ∙ k.invariant.2,
       omega (arith, f.1, k.invariant.3),
       sym t.2 ∙ k.invariant.4,
       sym t.3 ∙ k.invariant.5,
@@ -37,4 +37,7 @@ returns c =
     let k = c.loop-i in
     let a = c.args in
     let t = records_none k.out (drop (48 * k.i) a.room.now) k.at a.m k.invariant.0 (omega (arith, k.invariant.1)) in
-    ((sym t.0 ∙ k.invariant.4, omega (arith, t.1, k.invariant.5)), counted k.out k.at (omega (arith, k.invariant.1, k.invariant.2, k.invariant.3, c.requires.room)))
+    record {
+      is = (sym t.0 ∙ k.invariant.4, omega (arith, t.1, k.invariant.5));
+      counts = counted k.out k.at (omega (arith, k.invariant.1, k.invariant.2, k.invariant.3, c.requires.room));
+    }

@@ -1,4 +1,4 @@
-use mathlib.Core.List.{◌∷◌, ◌++◌}
+use mathlib.Core.List.{[], ◌∷◌, ◌++◌}
 use mathlib.Core.Path.{◌∙◌}
 use native.Mathlib.Omega.{arith}
 use lib.ListN.{length-append}
@@ -10,20 +10,17 @@ use Rattle.text.proofs.Puts.{put_then, put_counts}
 use Rattle.print.proofs.Records.{decimal_most, refused_short}
 use Rattle.print.proofs.put_refused.Goals as goal
 
--- slice_aggregate_put_bytes : tie.Need-slice-aggregate-put-bytes
--- slice_aggregate_put_bytes c = search rules
-
 pub put_decimal-b-requires : goal.put_decimal-b-requires
-put_decimal-b-requires c = record { room = omega (arith, c.put_bytes-a.ensures.is.1, c.put_bytes-a.auto.0, decimal_most c.args.number, c.requires.room) }
+put_decimal-b-requires c = record { room = omega (arith, c.put_bytes-a.ensures.is.1, c.put_bytes-a.auto.out, decimal_most c.args.number, c.requires.room) }
 
 pub put_spaced-c-requires : goal.put_spaced-c-requires
-put_spaced-c-requires c = record { room = omega (arith, c.put_decimal-b.ensures.is.1, c.put_decimal-b.auto.0, c.put_bytes-a.ensures.is.1, c.put_bytes-a.auto.0, decimal_most c.args.number, decimal_most c.args.line, c.requires.room) }
+put_spaced-c-requires c = record { room = omega (arith, c.put_decimal-b.ensures.is.1, c.put_decimal-b.auto.out, c.put_bytes-a.ensures.is.1, c.put_bytes-a.auto.out, decimal_most c.args.number, decimal_most c.args.line, c.requires.room) }
 
 pub put_byte-requires : goal.put_byte-requires
-put_byte-requires c = record { room = omega (arith, c.put_spaced-c.ensures.is.1, c.put_spaced-c.auto.0, c.put_decimal-b.ensures.is.1, c.put_decimal-b.auto.0, c.put_bytes-a.ensures.is.1, c.put_bytes-a.auto.0, decimal_most c.args.number, decimal_most c.args.line, c.requires.room) }
+put_byte-requires c = record { room = omega (arith, c.put_spaced-c.ensures.is.1, c.put_spaced-c.auto.out, c.put_decimal-b.ensures.is.1, c.put_decimal-b.auto.out, c.put_bytes-a.ensures.is.1, c.put_bytes-a.auto.out, decimal_most c.args.number, decimal_most c.args.line, c.requires.room) }
 
 pub shape_of-out : goal.shape_of-out
-shape_of-out c = c.put_byte.auto.0 ∙ c.put_spaced-c.auto.0 ∙ c.put_decimal-b.auto.0 ∙ c.put_bytes-a.auto.0
+shape_of-out c = c.put_byte.auto.out ∙ c.put_spaced-c.auto.out ∙ c.put_decimal-b.auto.out ∙ c.put_bytes-a.auto.out
 
 pub returns : goal.returns
 returns c =
@@ -36,7 +33,10 @@ returns c =
     let n2 = length-append (refused_word ++ d) e in
     let m1 = decimal_most a.number in
     let m2 = decimal_most a.line in
-    let p = put_then l c.put_bytes-a.new.0 c.put_decimal-b.new.0 0 c.put_bytes-a.result c.put_decimal-b.result refused_word d (omega arith) c.put_bytes-a.ensures.is c.put_decimal-b.ensures.is in
-    let q = put_then l c.put_decimal-b.new.0 c.put_spaced-c.new.0 0 c.put_decimal-b.result c.put_spaced-c.result (refused_word ++ d) e (omega arith) p c.put_spaced-c.ensures.is in
-    let t = put_then l c.put_spaced-c.new.0 c.put_byte.new.0 0 c.put_spaced-c.result c.put_byte.result (refused_word ++ d ++ e) (newline ∷ []) (omega arith) q c.put_byte.ensures.is in
-    (t, put_counts l _ (refused_line a.number a.line) _ (omega (arith, refused_short a.number a.line)) t)
+    let p = put_then l c.put_bytes-a.new.out c.put_decimal-b.new.out 0 c.put_bytes-a.result c.put_decimal-b.result refused_word d (omega arith) c.put_bytes-a.ensures.is c.put_decimal-b.ensures.is in
+    let q = put_then l c.put_decimal-b.new.out c.put_spaced-c.new.out 0 c.put_decimal-b.result c.put_spaced-c.result (refused_word ++ d) e (omega arith) p c.put_spaced-c.ensures.is in
+    let t = put_then l c.put_spaced-c.new.out c.put_byte.new.out 0 c.put_spaced-c.result c.put_byte.result (refused_word ++ d ++ e) (newline ∷ []) (omega arith) q c.put_byte.ensures.is in
+    record {
+      is = t;
+      counts = put_counts l _ (refused_line a.number a.line) _ (omega (arith, refused_short a.number a.line)) t;
+    }

@@ -1,4 +1,4 @@
-use mathlib.Core.List.{◌∷◌, ◌++◌}
+use mathlib.Core.List.{[], ◌∷◌, ◌++◌}
 use native.Mathlib.Omega.{arith}
 use lib.ListN.{length-append}
 use borrow.Author.Rules.{rules}
@@ -9,20 +9,20 @@ use Rattle.text.proofs.Puts.{put_then, put_counts}
 use Rattle.print.proofs.Records.{decimal_most, scale_short}
 use Rattle.print.proofs.put_scale.Goals as goal
 
--- slice_aggregate_put_bytes : tie.Need-slice-aggregate-put-bytes
--- slice_aggregate_put_bytes c = search rules
-
 pub put_decimal-b-requires : goal.put_decimal-b-requires
-put_decimal-b-requires c = record { room = omega (arith, c.put_bytes-a.ensures.is.1, c.put_bytes-a.auto.0, decimal_most c.args.scale, c.requires.room) }
+put_decimal-b-requires c = record { room = omega (arith, c.put_bytes-a.ensures.is.1, c.put_bytes-a.auto.out, decimal_most c.args.scale, c.requires.room) }
 
 pub put_byte-requires : goal.put_byte-requires
-put_byte-requires c = record { room = omega (arith, c.put_decimal-b.ensures.is.1, c.put_decimal-b.auto.0, c.put_bytes-a.ensures.is.1, c.put_bytes-a.auto.0, decimal_most c.args.scale, c.requires.room) }
+put_byte-requires c = record { room = omega (arith, c.put_decimal-b.ensures.is.1, c.put_decimal-b.auto.out, c.put_bytes-a.ensures.is.1, c.put_bytes-a.auto.out, decimal_most c.args.scale, c.requires.room) }
 
 pub returns : goal.returns
 returns c =
     let a = c.args in
     let l = a.out.now in
     let d = decimal_of a.scale in
-    let p = put_then l c.put_bytes-a.new.0 c.put_decimal-b.new.0 0 c.put_bytes-a.result c.put_decimal-b.result scale_word d (omega (arith, c.requires.room)) c.put_bytes-a.ensures.is c.put_decimal-b.ensures.is in
-    let q = put_then l c.put_decimal-b.new.0 c.put_byte.new.0 0 c.put_decimal-b.result c.put_byte.result (scale_word ++ d) (newline ∷ []) (omega (arith, length-append scale_word d, decimal_most a.scale, c.requires.room)) p c.put_byte.ensures.is in
-    (q, put_counts l _ (scale_line a.scale) _ (omega (arith, scale_short a.scale, c.requires.room)) q)
+    let p = put_then l c.put_bytes-a.new.out c.put_decimal-b.new.out 0 c.put_bytes-a.result c.put_decimal-b.result scale_word d (omega (arith, c.requires.room)) c.put_bytes-a.ensures.is c.put_decimal-b.ensures.is in
+    let q = put_then l c.put_decimal-b.new.out c.put_byte.new.out 0 c.put_decimal-b.result c.put_byte.result (scale_word ++ d) (newline ∷ []) (omega (arith, length-append scale_word d, decimal_most a.scale, c.requires.room)) p c.put_byte.ensures.is in
+    record {
+      is = q;
+      counts = put_counts l _ (scale_line a.scale) _ (omega (arith, scale_short a.scale, c.requires.room)) q;
+    }

@@ -34,11 +34,11 @@ loop-k-preserved c =
     let at : x ≡ get_or s k.k 0 =
     c.get-x.ensures.is.0 ∙ sym (slot_at 16 k.k b (omega arith) ∙ ap (λ (l : List ℕ). number (take 2 l)) (drop-drop (2 * k.k) a.from r)) in
     let e = ap (λ (y : ℕ). spaced (take k.k s) ++ (space ∷ decimal_of y)) at ∙ spaced_more s k.k (omega (arith, length_slots 16 b)) in
-    let p = put_then a.out.now k.out c.put_spaced-next.new.0 a.at k.next c.put_spaced-next.result (spaced (take k.k s)) (space ∷ decimal_of x) (omega (arith, k.invariant.3.1, k.invariant.2, c.requires.room.2)) k.invariant.3 c.put_spaced-next.ensures.is in (
+    let p = put_then a.out.now k.out c.put_spaced-next.new.out a.at k.next c.put_spaced-next.result (spaced (take k.k s)) (space ∷ decimal_of x) (omega (arith, k.invariant.3.1, k.invariant.2, c.requires.room.2)) k.invariant.3 c.put_spaced-next.ensures.is in (
       omega arith,
-      c.put_spaced-next.auto.0 ∙ k.invariant.1,
+      c.put_spaced-next.auto.out ∙ k.invariant.1,
       omega (arith, c.put_spaced-next.ensures.is.1, k.invariant.2, decimal_short x c.get-x.ensures.is.1),
-      put_as a.out.now c.put_spaced-next.new.0 a.at c.put_spaced-next.result _ _ e p,
+      put_as a.out.now c.put_spaced-next.new.out a.at c.put_spaced-next.result _ _ e p,
     )
 
 pub shape_of-out : goal.shape_of-out

@@ -1,4 +1,4 @@
-use mathlib.Core.List.{◌∷◌}
+use mathlib.Core.List.{[], ◌∷◌}
 use native.Mathlib.Omega.{arith}
 use Rattle.print.specs.Decimals.{decimal_of}
 use Rattle.text.proofs.Puts.{put_then}

@@ -2,7 +2,6 @@ use Prim.Native.Nat.{ℕ, ◌+◌}
 use mathlib.Core.Path.{refl, sym, ap, ◌∙◌}
 use native.Mathlib.Omega.{arith}
 use lib.ListN.{drop}
-use borrow.Author.Tests.{not-true, not-false}
 use Rattle.text.specs.Form.{may_stand, stage_after, form_from}
 use Rattle.text.specs.Parts.{split_by, newline}
 use Rattle.text.proofs.Forms.{form_unended, form_refused, form_on, form_good, form_short}
@@ -19,14 +18,14 @@ returns-then-s-end c =
 pub returns-then-not-may_stand : goal.returns-then-not-may_stand
 returns-then-not-may_stand c =
     record { is = let k = c.loop-at in
-    let f = sym (ap (may_stand k.stage) c.read_line-item.ensures.is) ∙ sym c.may_stand.ensures.is ∙ not-true _ c.if-not-may_stand.true-raw in
+    let f = sym (ap (may_stand k.stage) c.read_line-item.ensures.is) ∙ sym c.may_stand.ensures.is ∙ c.if-not-may_stand.true in
     sym (sym k.invariant.2 ∙ form_refused c.args.s.now k.stage k.line k.at c.find-end.result c.find-end.ensures.is c.if-s-end.false f) }
 
 pub loop-at-preserved : goal.loop-at-preserved
 loop-at-preserved c =
     let k = c.loop-at in
     let s = c.args.s.now in
-    let f = sym (ap (may_stand k.stage) c.read_line-item.ensures.is) ∙ sym c.may_stand.ensures.is ∙ not-false _ c.if-not-may_stand.false-raw in
+    let f = sym (ap (may_stand k.stage) c.read_line-item.ensures.is) ∙ sym c.may_stand.ensures.is ∙ c.if-not-may_stand.false in
     let g = c.stage_after-stage.ensures.is ∙ ap stage_after c.read_line-item.ensures.is in (
       omega arith,
       omega (arith, c.find-end.ensures.is),

@@ -8,19 +8,19 @@ use Rattle.text.proofs.Numerals.{every_on, every_stop, every_end, spelled_on, sp
 use Rattle.text.proofs.number.Goals as goal
 
 pub returns-then-not-is_plain : goal.returns-then-not-is_plain
-returns-then-not-is_plain c = record { is = sym (not_plain c.args.part.now (sym c.is_plain.ensures.is ∙ not-true _ c.if-not-is_plain.true-raw)) }
+returns-then-not-is_plain c = record { is = sym (not_plain c.args.part.now (sym c.is_plain.ensures.is ∙ c.if-not-is_plain.true)) }
 
 pub loop-i-init : goal.loop-i-init
-loop-i-init c = (omega arith, omega arith, sym c.is_plain.ensures.is ∙ not-false _ c.if-not-is_plain.false-raw, refl, refl)
+loop-i-init c = (omega arith, omega arith, sym c.is_plain.ensures.is ∙ c.if-not-is_plain.false, refl, refl)
 
 pub returns-then-not-is_digit : goal.returns-then-not-is_digit
 returns-then-not-is_digit c =
     record { is = let k = c.loop-i in
     let p = c.args.part.now in
-    sym (not_digits p (sym k.invariant.3 ∙ every_stop is_digit p k.i (omega arith) (sym c.is_digit.ensures.is ∙ not-true _ c.if-not-is_digit.true-raw))) }
+    sym (not_digits p (sym k.invariant.3 ∙ every_stop is_digit p k.i (omega arith) (sym c.is_digit.ensures.is ∙ c.if-not-is_digit.true))) }
 
 pub with_digit-v-requires : goal.with_digit-v-requires
-with_digit-v-requires c = record { digit = (c.loop-i.invariant.1, sym c.is_digit.ensures.is ∙ not-false _ c.if-not-is_digit.false-raw) }
+with_digit-v-requires c = record { digit = (c.loop-i.invariant.1, sym c.is_digit.ensures.is ∙ c.if-not-is_digit.false) }
 
 pub returns-then-v-gt-MOST_NUMBER : goal.returns-then-v-gt-MOST_NUMBER
 returns-then-v-gt-MOST_NUMBER c =
@@ -34,7 +34,7 @@ pub loop-i-preserved : goal.loop-i-preserved
 loop-i-preserved c =
     let k = c.loop-i in
     let p = c.args.part.now in
-    let d = sym c.is_digit.ensures.is ∙ not-false _ c.if-not-is_digit.false-raw in
+    let d = sym c.is_digit.ensures.is ∙ c.if-not-is_digit.false in
     let e : spelled_after c.with_digit-v.result (drop (k.i + 1) p) ≡ spelled p =
     ap (λ (n : ℕ). spelled_after n (drop (k.i + 1) p)) c.with_digit-v.ensures.is ∙ sym (spelled_on k.v p k.i (omega arith)) ∙ k.invariant.4 in
     (omega arith, c.if-v-gt-MOST_NUMBER.false, k.invariant.2, sym (every_on is_digit p k.i (omega arith) d) ∙ k.invariant.3, e)

@@ -14,8 +14,8 @@ returns-then-n-a c =
 pub slice_bounds-with_one-end : goal.slice_bounds-with_one-end
 slice_bounds-with_one-end c = sym (length-take-le c.find-a.result c.args.line.now (omega arith))
 
-pub slice_bounds-with_one-end : goal.slice_bounds-with_one-end
-slice_bounds-with_one-end c = piece_within 32 c.args.line.now (c.find-a.result + 1) c.find-b.result c.find-b.ensures.is (omega arith)
+pub slice_bounds-with_one-end-then-n-b : goal.slice_bounds-with_one-end-then-n-b
+slice_bounds-with_one-end-then-n-b c = piece_within 32 c.args.line.now (c.find-a.result + 1) c.find-b.result c.find-b.ensures.is (omega arith)
 
 pub returns-then-n-b : goal.returns-then-n-b
 returns-then-n-b c =

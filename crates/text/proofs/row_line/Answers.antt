@@ -1,6 +1,5 @@
 use Prim.Native.Nat.{ℕ, ◌+◌}
 use mathlib.Core.Bool.{true}
-use mathlib.Core.Logic.{⊎_elim}
 use mathlib.Core.Path.{◌≡◌, sym, ap, ◌∙◌}
 use native.Mathlib.Omega.{arith}
 use lib.ListN.{drop, get_or}
@@ -8,6 +7,7 @@ use Rattle.text.specs.Meaning.{items_of, line_at, is_task, row_lines_in}
 use Rattle.text.specs.declared.Line.{Line}
 use Rattle.text.proofs.Walks.{next_later, next_within, row_line_here, row_line_on, row_line_skip, row_line_end, row_line_zero, row_line_start}
 use Rattle.text.proofs.row_line.Goals as goal
+use Rattle.text.proofs.row_line.Goals.{then-is_task+else-left-eq0, else-is_task}
 
 pub returns-then-row-eq0 : goal.returns-then-row-eq0
 returns-then-row-eq0 c = record { is = row_line_zero c.args.s.now c.args.row c.if-row-eq0.true }
@@ -40,9 +40,10 @@ loop-at-preserved c =
     let it : c.is_task.result ≡ is_task (line_at s k.at).item = c.is_task.ensures.is ∙ ap (λ (x : Line). is_task x.item) c.line_at-l.ensures.is in
     let rest : ℕ → ℕ = λ n. get_or (row_lines_in (k.here + 1) (items_of (drop (line_at s k.at).next s))) n 0 in
     let g : rest c.if-is_task.left ≡ get_or (row_lines_in k.here (items_of (drop k.at s))) k.left 0 =
-    ⊎_elim (λ w. ap rest w.2 ∙ sym (row_line_on s k.at k.here k.left (sym it ∙ w.0.taken) w.1.left))
-    (λ w. ap rest w.1 ∙ sym (row_line_skip s k.at k.here k.left (sym it ∙ w.0.left)))
-    c.if-is_task.branch in (
+    elim c.if-is_task.branch [
+      then-is_task+else-left-eq0 w ↦ ap rest w.left-is ∙ sym (row_line_on s k.at k.here k.left (sym it ∙ w.if-is_task.true) w.if-left-eq0.false)
+      | else-is_task w ↦ ap rest w.left-is ∙ sym (row_line_skip s k.at k.here k.left (sym it ∙ w.if-is_task.false))
+    ] in (
       omega (arith, next_within s k.at),
       omega (arith, next_later s k.at c.loop-at-test.true),
       ap (λ (n : ℕ). get_or (row_lines_in (k.here + 1) (items_of (drop n s))) c.if-is_task.left 0) nx ∙ g ∙ k.invariant.2,

@@ -1,5 +1,5 @@
 use Prim.Native.Nat.{◌+◌, ◌-◌, ◌*◌}
-use mathlib.Core.List.{List}
+use mathlib.Core.List.{[], List}
 use mathlib.Core.Path.{◌≡◌, refl, sym, ap, ◌∙◌}
 use native.Mathlib.Omega.{arith}
 use lib.Seq.{take-nil}
@@ -36,7 +36,7 @@ loop-at-preserved c =
     let nx : x.next ≡ (line_at s k.at).next = ap (λ (y : Line). y.next) c.line_at-line.ensures.is in
     let w = rows_walk_by s k.at x c.line_at-line.ensures.is in
     let rest = rows_in (items_of (drop x.next s)) in
-    let r = rows_turn k.out c.put_item-k.new.0 k.k c.put_item-k.result (row_by x.item) rest k.invariant.1 (omega arith) c.put_item-k.ensures.is in
+    let r = rows_turn k.out c.put_item-k.new.out k.k c.put_item-k.result (row_by x.item) rest k.invariant.1 (omega arith) c.put_item-k.ensures.is in
     let at = ap (λ (rs : List Row). pasted k.out (12 * k.k) (table_bytes (take (129 - k.k) rs))) w in
     let len = ap (λ (rs : List Row). 12 * k.k + length (table_bytes (take (129 - k.k) rs))) w in
     (omega (arith, next_within s k.at), r.0, r.1 ∙ k.invariant.2, sym r.2 ∙ sym at ∙ k.invariant.3, sym r.3 ∙ sym len ∙ k.invariant.4)
@@ -55,4 +55,7 @@ returns c =
     let e : take (129 - k.k) (rows_in (items_of (drop k.at s))) ≡ [] = ap (take (129 - k.k)) (rows_end s k.at c.loop-at-test.false) ∙ take-nil (129 - k.k) in
     let z = ap (λ (rs : List Row). pasted k.out (12 * k.k) (table_bytes rs)) e ∙ paste_none k.out (12 * k.k) in
     let n : length (table_bytes (take (129 - k.k) (rows_in (items_of (drop k.at s))))) ≡ 0 = ap (λ (rs : List Row). length (table_bytes rs)) e in
-    ((sym z ∙ k.invariant.3, omega (arith, k.invariant.4)), counted k.out (12 * k.k) (omega (arith, k.invariant.1, k.invariant.2, c.requires.room)))
+    record {
+      is = (sym z ∙ k.invariant.3, omega (arith, k.invariant.4));
+      counts = counted k.out (12 * k.k) (omega (arith, k.invariant.1, k.invariant.2, c.requires.room));
+    }
