@@ -1,17 +1,10 @@
 use mathlib.Core.Path.{refl}
-use native.Mathlib.Nat.{div-lt_self}
 use native.Mathlib.Omega.{arith}
 use Rattle.print.proofs.Decimals.{count_one, count_two, count_three, count_four, count_on}
 use Rattle.print.proofs.digit_count.Goals as goal
 
 pub loop-y-init : goal.loop-y-init
 loop-y-init c = (20, refl, (omega arith, omega (arith, c.ranges.x.fits)), omega arith)
-
-pub overflow_add-n : goal.overflow_add-n
-overflow_add-n c = omega arith
-
-pub loop-y-smaller : goal.loop-y-smaller
-loop-y-smaller c = div-lt_self (omega arith) (omega arith)
 
 pub loop-y-preserved : goal.loop-y-preserved
 loop-y-preserved c =

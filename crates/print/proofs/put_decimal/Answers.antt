@@ -23,6 +23,8 @@ loop-i-preserved c =
 
 pub returns : goal.returns
 returns c =
-    record { is = let k = c.loop-i in
-    let a = c.args in
-    (sym (low_none k.out a.at k.i k.y (omega arith) ∙ paste_none k.out a.at) ∙ k.invariant.3, omega (arith, k.invariant.1)) }
+    record {
+      is = let k = c.loop-i in
+          let a = c.args in
+          (sym (low_none k.out a.at k.i k.y (omega arith) ∙ paste_none k.out a.at) ∙ k.invariant.3, omega (arith, k.invariant.1));
+    }

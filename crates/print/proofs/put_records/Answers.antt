@@ -2,18 +2,11 @@ use Prim.Native.Nat.{◌*◌}
 use mathlib.Core.Path.{refl, sym, ◌∙◌}
 use native.Mathlib.Omega.{arith}
 use lib.ListN.{drop}
-use Rattle.text.proofs.Puts.{counted}
 use Rattle.print.proofs.Records.{records_turn, records_none}
 use Rattle.print.proofs.put_records.Goals as goal
 
 pub loop-i-init : goal.loop-i-init
 loop-i-init c = (c.args.n, omega arith, refl, omega arith, refl, omega arith)
-
-pub put_line-at-requires : goal.put_line-at-requires
-put_line-at-requires c =
-    record { room = let k = c.loop-i in
-    let p = c.requires.room in
-    (p.0, omega (arith, k.invariant.1), omega (arith, k.invariant.1, k.invariant.2, k.invariant.3)) }
 
 pub loop-i-preserved : goal.loop-i-preserved
 loop-i-preserved c =
@@ -29,15 +22,9 @@ loop-i-preserved c =
       sym t.3 ∙ k.invariant.5,
     )
 
-pub shape_of-out : goal.shape_of-out
-shape_of-out c = c.loop-i.invariant.2
-
-pub returns : goal.returns
-returns c =
+pub returns-clause-is : goal.returns-clause-is
+returns-clause-is c =
     let k = c.loop-i in
     let a = c.args in
     let t = records_none k.out (drop (48 * k.i) a.room.now) k.at a.m k.invariant.0 (omega (arith, k.invariant.1)) in
-    record {
-      is = (sym t.0 ∙ k.invariant.4, omega (arith, t.1, k.invariant.5));
-      counts = counted k.out k.at (omega (arith, k.invariant.1, k.invariant.2, k.invariant.3, c.requires.room));
-    }
+    (sym t.0 ∙ k.invariant.4, omega (arith, t.1, k.invariant.5))

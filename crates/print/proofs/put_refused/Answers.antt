@@ -1,13 +1,11 @@
 use mathlib.Core.List.{[], ◌∷◌, ◌++◌}
-use mathlib.Core.Path.{◌∙◌}
 use native.Mathlib.Omega.{arith}
 use lib.ListN.{length-append}
-use borrow.Author.Rules.{rules}
-use Rattle.print.specs.Printed.{refused_word, refused_line}
+use Rattle.print.specs.Printed.{refused_word}
 use Rattle.print.specs.Decimals.{decimal_of}
 use Rattle.text.specs.Parts.{newline, space}
-use Rattle.text.proofs.Puts.{put_then, put_counts}
-use Rattle.print.proofs.Records.{decimal_most, refused_short}
+use Rattle.text.proofs.Puts.{put_then}
+use Rattle.print.proofs.Records.{decimal_most}
 use Rattle.print.proofs.put_refused.Goals as goal
 
 pub put_decimal-b-requires : goal.put_decimal-b-requires
@@ -19,11 +17,8 @@ put_spaced-c-requires c = record { room = omega (arith, c.put_decimal-b.ensures.
 pub put_byte-requires : goal.put_byte-requires
 put_byte-requires c = record { room = omega (arith, c.put_spaced-c.ensures.is.1, c.put_spaced-c.auto.out, c.put_decimal-b.ensures.is.1, c.put_decimal-b.auto.out, c.put_bytes-a.ensures.is.1, c.put_bytes-a.auto.out, decimal_most c.args.number, decimal_most c.args.line, c.requires.room) }
 
-pub shape_of-out : goal.shape_of-out
-shape_of-out c = c.put_byte.auto.out ∙ c.put_spaced-c.auto.out ∙ c.put_decimal-b.auto.out ∙ c.put_bytes-a.auto.out
-
-pub returns : goal.returns
-returns c =
+pub returns-clause-is : goal.returns-clause-is
+returns-clause-is c =
     let a = c.args in
     let l = a.out.now in
     let d = decimal_of a.number in
@@ -36,7 +31,4 @@ returns c =
     let p = put_then l c.put_bytes-a.new.out c.put_decimal-b.new.out 0 c.put_bytes-a.result c.put_decimal-b.result refused_word d (omega arith) c.put_bytes-a.ensures.is c.put_decimal-b.ensures.is in
     let q = put_then l c.put_decimal-b.new.out c.put_spaced-c.new.out 0 c.put_decimal-b.result c.put_spaced-c.result (refused_word ++ d) e (omega arith) p c.put_spaced-c.ensures.is in
     let t = put_then l c.put_spaced-c.new.out c.put_byte.new.out 0 c.put_spaced-c.result c.put_byte.result (refused_word ++ d ++ e) (newline ∷ []) (omega arith) q c.put_byte.ensures.is in
-    record {
-      is = t;
-      counts = put_counts l _ (refused_line a.number a.line) _ (omega (arith, refused_short a.number a.line)) t;
-    }
+    t

@@ -20,8 +20,10 @@ loop-k-init c = (omega arith, refl, omega arith, (sym (paste_none c.args.out.now
 
 pub put_spaced-next-requires : goal.put_spaced-next-requires
 put_spaced-next-requires c =
-    record { room = let k = c.loop-k in
-    omega (arith, decimal_short c.get-x.result c.get-x.ensures.is.1, k.invariant.1, k.invariant.2, c.requires.room.2) }
+    record {
+      room = let k = c.loop-k in
+          omega (arith, decimal_short c.get-x.result c.get-x.ensures.is.1, k.invariant.1, k.invariant.2, c.requires.room.2);
+    }
 
 pub loop-k-preserved : goal.loop-k-preserved
 loop-k-preserved c =
@@ -40,13 +42,3 @@ loop-k-preserved c =
       omega (arith, c.put_spaced-next.ensures.is.1, k.invariant.2, decimal_short x c.get-x.ensures.is.1),
       put_as a.out.now c.put_spaced-next.new.out a.at c.put_spaced-next.result _ _ e p,
     )
-
-pub shape_of-out : goal.shape_of-out
-shape_of-out c = c.loop-k.invariant.1
-
-pub returns : goal.returns
-returns c =
-    record { is = let k = c.loop-k in
-    let a = c.args in
-    let e : k.k ≡ a.m = omega arith in
-    (put_as a.out.now k.out a.at k.next _ _ (ap (λ (n : ℕ). spaced (take n (slots_from 16 (drop a.from a.room.now)))) e) k.invariant.3, omega (arith, k.invariant.2)) }

@@ -1,5 +1,5 @@
 use Prim.Native.Nat.{ℕ, ◌+◌}
-use mathlib.Core.Path.{refl, sym, ap, ◌∙◌}
+use mathlib.Core.Path.{sym, ap, ◌∙◌}
 use native.Mathlib.Omega.{arith}
 use lib.ListN.{drop}
 use Rattle.text.specs.Form.{may_stand, stage_after, form_from}
@@ -7,19 +7,20 @@ use Rattle.text.specs.Parts.{split_by, newline}
 use Rattle.text.proofs.Forms.{form_unended, form_refused, form_on, form_good, form_short}
 use Rattle.text.proofs.form_lines.Goals as goal
 
-pub loop-at-init : goal.loop-at-init
-loop-at-init c = (omega arith, omega arith, refl)
-
 pub returns-then-s-end : goal.returns-then-s-end
 returns-then-s-end c =
-    record { is = let k = c.loop-at in
-    sym (sym k.invariant.2 ∙ form_unended c.args.s.now k.stage k.line k.at c.find-end.result c.find-end.ensures.is c.loop-at-test.true c.if-s-end.true) }
+    record {
+      is = let k = c.loop-at in
+          sym (sym k.invariant.2 ∙ form_unended c.args.s.now k.stage k.line k.at c.find-end.result c.find-end.ensures.is c.loop-at-test.true c.if-s-end.true);
+    }
 
 pub returns-then-not-may_stand : goal.returns-then-not-may_stand
 returns-then-not-may_stand c =
-    record { is = let k = c.loop-at in
-    let f = sym (ap (may_stand k.stage) c.read_line-item.ensures.is) ∙ sym c.may_stand.ensures.is ∙ c.if-not-may_stand.true in
-    sym (sym k.invariant.2 ∙ form_refused c.args.s.now k.stage k.line k.at c.find-end.result c.find-end.ensures.is c.if-s-end.false f) }
+    record {
+      is = let k = c.loop-at in
+          let f = sym (ap (may_stand k.stage) c.read_line-item.ensures.is) ∙ sym c.may_stand.ensures.is ∙ c.if-not-may_stand.true in
+          sym (sym k.invariant.2 ∙ form_refused c.args.s.now k.stage k.line k.at c.find-end.result c.find-end.ensures.is c.if-s-end.false f);
+    }
 
 pub loop-at-preserved : goal.loop-at-preserved
 loop-at-preserved c =
@@ -36,10 +37,14 @@ loop-at-preserved c =
 
 pub returns-then-stage-eq3 : goal.returns-then-stage-eq3
 returns-then-stage-eq3 c =
-    record { is = let k = c.loop-at in
-    sym (sym k.invariant.2 ∙ form_good c.args.s.now k.stage k.line k.at c.loop-at-test.false c.if-stage-eq3.true) }
+    record {
+      is = let k = c.loop-at in
+          sym (sym k.invariant.2 ∙ form_good c.args.s.now k.stage k.line k.at c.loop-at-test.false c.if-stage-eq3.true);
+    }
 
 pub returns : goal.returns
 returns c =
-    record { is = let k = c.loop-at in
-    sym (sym k.invariant.2 ∙ form_short c.args.s.now k.stage k.line k.at c.loop-at-test.false c.if-stage-eq3.false) }
+    record {
+      is = let k = c.loop-at in
+          sym (sym k.invariant.2 ∙ form_short c.args.s.now k.stage k.line k.at c.loop-at-test.false c.if-stage-eq3.false);
+    }

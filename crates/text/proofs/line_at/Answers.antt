@@ -13,5 +13,7 @@ returns-then-n-end c = record { is = sym (line_unended c.args.s.now c.args.at c.
 
 pub returns : goal.returns
 returns c =
-    record { is = let made : Item → Line = λ x. record { item = x; next = c.find-end.result + 1 } in
-    ap made c.read_line-item.ensures.is ∙ sym (line_whole c.args.s.now c.args.at c.find-end.result c.find-end.ensures.is c.if-n-end.false) }
+    record {
+      is = let made : Item → Line = λ x. record { item = x; next = c.find-end.result + 1 } in
+          ap made c.read_line-item.ensures.is ∙ sym (line_whole c.args.s.now c.args.at c.find-end.result c.find-end.ensures.is c.if-n-end.false);
+    }

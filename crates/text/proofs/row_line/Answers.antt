@@ -17,13 +17,12 @@ loop-at-init c = (omega arith, omega arith, row_line_start c.args.s.now c.args.r
 
 pub returns-then-left-eq0 : goal.returns-then-left-eq0
 returns-then-left-eq0 c =
-    record { is = let k = c.loop-at in
-    let s = c.args.s.now in
-    let t : is_task (line_at s k.at).item ≡ true = ap (λ (x : Line). is_task x.item) (sym c.line_at-l.ensures.is) ∙ sym c.is_task.ensures.is ∙ c.if-is_task.true in
-    sym (sym k.invariant.2 ∙ ap (λ (n : ℕ). get_or (row_lines_in k.here (items_of (drop k.at s))) n 0) c.if-left-eq0.true ∙ row_line_here s k.at k.here t) }
-
-pub overflow_add-here : goal.overflow_add-here
-overflow_add-here c = omega arith
+    record {
+      is = let k = c.loop-at in
+          let s = c.args.s.now in
+          let t : is_task (line_at s k.at).item ≡ true = ap (λ (x : Line). is_task x.item) (sym c.line_at-l.ensures.is) ∙ sym c.is_task.ensures.is ∙ c.if-is_task.true in
+          sym (sym k.invariant.2 ∙ ap (λ (n : ℕ). get_or (row_lines_in k.here (items_of (drop k.at s))) n 0) c.if-left-eq0.true ∙ row_line_here s k.at k.here t);
+    }
 
 pub loop-at-smaller : goal.loop-at-smaller
 loop-at-smaller c =
@@ -41,7 +40,7 @@ loop-at-preserved c =
     let rest : ℕ → ℕ = λ n. get_or (row_lines_in (k.here + 1) (items_of (drop (line_at s k.at).next s))) n 0 in
     let g : rest c.if-is_task.left ≡ get_or (row_lines_in k.here (items_of (drop k.at s))) k.left 0 =
     elim c.if-is_task.branch [
-      then-is_task+else-left-eq0 w ↦ ap rest w.left-is ∙ sym (row_line_on s k.at k.here k.left (sym it ∙ w.if-is_task.true) w.if-left-eq0.false)
+      | then-is_task+else-left-eq0 w ↦ ap rest w.left-is ∙ sym (row_line_on s k.at k.here k.left (sym it ∙ w.if-is_task.true) w.if-left-eq0.false)
       | else-is_task w ↦ ap rest w.left-is ∙ sym (row_line_skip s k.at k.here k.left (sym it ∙ w.if-is_task.false))
     ] in (
       omega (arith, next_within s k.at),
@@ -51,6 +50,8 @@ loop-at-preserved c =
 
 pub returns : goal.returns
 returns c =
-    record { is = let k = c.loop-at in
-    let s = c.args.s.now in
-    sym (sym k.invariant.2 ∙ row_line_end s k.at k.here k.left c.loop-at-test.false) }
+    record {
+      is = let k = c.loop-at in
+          let s = c.args.s.now in
+          sym (sym k.invariant.2 ∙ row_line_end s k.at k.here k.left c.loop-at-test.false);
+    }

@@ -9,7 +9,6 @@ use Rattle.ground.proofs.Bytes.{paste_none}
 use Rattle.rules.specs.Table.{Row, table_bytes}
 use Rattle.text.specs.Meaning.{items_of, line_at, row_by, rows_in, table_of}
 use Rattle.text.specs.declared.Line.{Line}
-use Rattle.text.proofs.Puts.{counted}
 use Rattle.text.proofs.Walks.{next_later, next_within, rows_walk_by, rows_end}
 use Rattle.text.proofs.Pastes.{rows_turn}
 use Rattle.text.proofs.table.Goals as goal
@@ -17,9 +16,6 @@ use Rattle.text.proofs.table.Goals as goal
 pub loop-at-init : goal.loop-at-init
 unfolding table_of
 loop-at-init c = (omega arith, omega arith, refl, refl, omega arith)
-
-pub put_item-k-requires : goal.put_item-k-requires
-put_item-k-requires c = record { room = (c.loop-at.invariant.1, omega arith) }
 
 pub loop-at-smaller : goal.loop-at-smaller
 loop-at-smaller c =
@@ -41,21 +37,12 @@ loop-at-preserved c =
     let len = ap (λ (rs : List Row). 12 * k.k + length (table_bytes (take (129 - k.k) rs))) w in
     (omega (arith, next_within s k.at), r.0, r.1 ∙ k.invariant.2, sym r.2 ∙ sym at ∙ k.invariant.3, sym r.3 ∙ sym len ∙ k.invariant.4)
 
-pub overflow_mul-result : goal.overflow_mul-result
-overflow_mul-result c = omega arith
-
-pub shape_of-out : goal.shape_of-out
-shape_of-out c = c.loop-at.invariant.2
-
-pub returns : goal.returns
+pub returns-clause-is : goal.returns-clause-is
 unfolding table_bytes
-returns c =
+returns-clause-is c =
     let k = c.loop-at in
     let s = c.args.s.now in
     let e : take (129 - k.k) (rows_in (items_of (drop k.at s))) ≡ [] = ap (take (129 - k.k)) (rows_end s k.at c.loop-at-test.false) ∙ take-nil (129 - k.k) in
     let z = ap (λ (rs : List Row). pasted k.out (12 * k.k) (table_bytes rs)) e ∙ paste_none k.out (12 * k.k) in
     let n : length (table_bytes (take (129 - k.k) (rows_in (items_of (drop k.at s))))) ≡ 0 = ap (λ (rs : List Row). length (table_bytes rs)) e in
-    record {
-      is = (sym z ∙ k.invariant.3, omega (arith, k.invariant.4));
-      counts = counted k.out (12 * k.k) (omega (arith, k.invariant.1, k.invariant.2, c.requires.room));
-    }
+    (sym z ∙ k.invariant.3, omega (arith, k.invariant.4))
