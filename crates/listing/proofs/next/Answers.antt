@@ -1,0 +1,15 @@
+use Rattle.text.proofs.Puts.{put_as}
+use Rattle.listing.proofs.Chunks.{turn_cursor, turn_chunk, turn_fits, pays}
+use Rattle.listing.proofs.next.Goals as goal
+
+pub put_part-len-requires : goal.put_part-len-requires
+put_part-len-requires c =
+    record { fits = let a = c.args in
+    turn_fits a.c c.turn-t.result c.turn-t.ensures.moves.0 }
+
+pub returns : goal.returns
+returns c =
+    let a = c.args in
+    let e = turn_cursor a.text.now a.c c.turn-t.result c.turn-t.ensures.is.0 in
+    let p = put_as _ _ _ _ _ _ (turn_chunk a.text.now a.c c.turn-t.result _ c.turn-t.ensures.is.0 c.turn-t.ensures.is.1) c.put_part-len.ensures.is in
+    ((e, p), (c.put_part-len.ensures.counts, (pays a.text.now a.c _ _ _ _ e p, c.turn-t.ensures.moves.1)))

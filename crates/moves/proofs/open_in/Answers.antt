@@ -1,0 +1,28 @@
+use Rattle.moves.specs.Lent.{step_state}
+use Rattle.moves.proofs.Opening.{can_open, can_open_to, opened_on, opened_off}
+use Rattle.moves.proofs.open_in.Goals as goal
+
+pub returns-then-moment : goal.returns-then-moment
+returns-then-moment c =
+    record { is = let a = c.args in
+    λ z. opened_on (step_state z a.terms a.moment a.period a.deadline a.share a.order a.awake a.last a.rk a.rt a.wk a.wt a.slots) c.if-moment.true }
+
+pub nonzero_div-tick : goal.nonzero_div-tick
+nonzero_div-tick c = (can_open _ c.requires.whole.1 c.if-moment.false).scale_pos
+
+pub plane_end-end_tick-requires : goal.plane_end-end_tick-requires
+plane_end-end_tick-requires c = record { came = let k = can_open _ c.requires.whole.1 c.if-moment.false in (k.some_row, k.came) }
+
+-- mul_close : tie.Need-overflow-mul-t22
+-- mul_close c = record { fits = (can_open_to _ c.before.before.before.before.before.before.requires.1 c.before.before.before.before.before.if1.false _ c.before.plane-end.ensures).small }
+
+pub overflow_sub-len : goal.overflow_sub-len
+overflow_sub-len c = (can_open_to _ c.requires.whole.1 c.if-moment.false _ c.plane_end-end_tick.ensures.is).later
+
+pub open_plane-lengths-requires : goal.open_plane-lengths-requires
+open_plane-lengths-requires c = record { fit = (can_open_to _ c.requires.whole.1 c.if-moment.false _ c.plane_end-end_tick.ensures.is).ready }
+
+pub returns : goal.returns
+returns c =
+    record { is = let a = c.args in
+    λ z. opened_off (step_state z a.terms a.moment a.period a.deadline a.share a.order a.awake a.last a.rk a.rt a.wk a.wt a.slots) c.if-moment.false _ c.plane_end-end_tick.ensures.is _ c.open_plane-lengths.ensures.is }
