@@ -1,3 +1,4 @@
+use mathlib.Core.List.{[]}
 use mathlib.Core.Path.{refl, sym, ◌∙◌, ap}
 use mathlib.Core.Bool.{false}
 use Prim.Native.Nat.{ℕ, ◌*◌, ◌/◌}
