@@ -8,7 +8,6 @@ use native.Mathlib.Nat.{mul-le-mul_right, lt_of_mul-lt-mul_right}
 use native.Mathlib.Decide.{dec_lt}
 use native.Mathlib.Omega.{arith}
 use lib.ListN.{length}
-use Rattle.ground.specs.Bytes.{le}
 use Rattle.ground.specs.Sums.{sum_of, times}
 use Rattle.ground.proofs.Sums.{sum_of_append}
 use Rattle.rules.specs.Calls.{wake}

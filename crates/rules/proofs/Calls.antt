@@ -9,7 +9,6 @@ use native.Mathlib.Nat.{mul-le-mul_right, mul-div_cancel}
 use native.Mathlib.Omega.{arith}
 use lib.Dec.{eqb}
 use lib.ListN.{length}
-use Rattle.ground.specs.Bytes.{le}
 use Rattle.ground.specs.Tests.{Says}
 use Rattle.ground.proofs.Tests.{eqb_says}
 use Rattle.rules.specs.Bounds.{clock}

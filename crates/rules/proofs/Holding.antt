@@ -11,7 +11,6 @@ use native.Mathlib.Decide.{dec_lt}
 use native.Mathlib.Omega.{arith}
 use lib.Dec.{leb, ltb, eqb}
 use lib.ListN.{length, length-map}
-use Rattle.ground.specs.Bytes.{le}
 use Rattle.ground.specs.Sums.{sum_of}
 use Rattle.ground.specs.Tests.{Says, every}
 use Rattle.ground.proofs.Sums.{sum_of_cong, sum_of_none, sum_of_map}

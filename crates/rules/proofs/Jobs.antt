@@ -18,7 +18,7 @@ use Rattle.ground.specs.Sums.{times}
 use Rattle.ground.specs.Tests.{Says}
 use Rattle.ground.proofs.Tests.{leb_says, ltb_says, eqb_says, is_true, is_false}
 use Rattle.rules.specs.Answers.{is_done}
-use Rattle.rules.specs.Calls.{lowest_idle, arrive_in, arriving, arrive_answer, arrive, after, moving, step_answer, step}
+use Rattle.rules.specs.Calls.{lowest_idle, arrive_in, arriving, arrive_answer, arrive, moving, step_answer, step}
 use Rattle.rules.specs.Demands.{Reached, Job}
 use Rattle.rules.specs.History.{earliest, limits_by, ran, Once, In, Working, Follows, EndsAt, came_by, limit_by, plane_end}
 use Rattle.rules.specs.Planes.{limit, end_of}
@@ -26,7 +26,7 @@ use Rattle.rules.specs.Reasons.{ArriveReason, StepReason, Comes}
 use Rattle.rules.specs.Record.{Record}
 use Rattle.rules.specs.Run.{Arrival, Call, arrive_call, step_call, Run, perform, perform_all}
 use Rattle.rules.specs.Scale.{scale_of}
-use Rattle.rules.specs.State.{Task, State, no_row, at, short, is_awake, runs, tick_of, due, last_of}
+use Rattle.rules.specs.State.{Task, State, no_row, at, short, is_awake, tick_of, due, last_of}
 use Rattle.rules.specs.Table.{Row, shorter}
 use Rattle.rules.proofs.Together.{Awake, Shut, Together}
 use Rattle.rules.proofs.Arriving.{idle_is, arrives}

@@ -9,7 +9,6 @@ use native.Mathlib.Nat.{mul-le-mul, le_of_mul-le-mul_right, mul-div_cancel, not-
 use native.Mathlib.Omega.{arith}
 use lib.Dec.{eqb}
 use lib.ListN.{length, length-map, get_or-map}
-use Rattle.ground.specs.Bytes.{le}
 use Rattle.ground.specs.Tests.{Says}
 use Rattle.ground.proofs.Sums.{sum_of_none, sum_of_places}
 use Rattle.ground.proofs.Tests.{eqb_says, is_false}

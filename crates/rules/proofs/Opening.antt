@@ -15,7 +15,6 @@ use Rattle.ground.proofs.Sums.{sum_of_at, sum_of_scale, sum_of_none, sum_of_plac
 use Rattle.ground.proofs.Tests.{ltb_says, if_by}
 use Rattle.ground.proofs.Times.{same_yes, same_no, times_place, by_same, times_cons}
 use Rattle.rules.specs.Planes.{falling, shares_of, enter_as, enter, open_tasks}
-use Rattle.rules.specs.Scale.{fits}
 use Rattle.rules.specs.State.{Cond, asleep, resting, running, waiting, Task, nobody, at, be, become, is_awake, amount, proc, runs, waits, on, awake_share}
 use Rattle.rules.proofs.Cases.{amount_of, proc_of, runs_of, waits_of, on_of_lem}
 use Rattle.rules.proofs.Events.{Stands, Core, core_in, core}

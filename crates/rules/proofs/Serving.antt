@@ -16,12 +16,12 @@ use Rattle.ground.specs.Tests.{Says}
 use Rattle.ground.proofs.Tests.{eqb_says, if_by}
 use Rattle.ground.proofs.Times.{up_length}
 use Rattle.rules.specs.Bounds.{clock, most_scale}
-use Rattle.rules.specs.Calls.{Moved, after, moving, step}
+use Rattle.rules.specs.Calls.{Moved, after, moving}
 use Rattle.rules.specs.History.{ran, Follows}
 use Rattle.rules.specs.Events.{spend, next_at}
 use Rattle.rules.specs.Planes.{end_of, open_tasks, opened}
 use Rattle.rules.specs.Record.{Record, on_proc, slots_of}
-use Rattle.rules.specs.State.{resting, waiting, Cond, asleep, running, Task, State, at, is_awake, be, proc, runs, tick_of, due, last_of}
+use Rattle.rules.specs.State.{resting, waiting, Cond, asleep, running, Task, State, at, is_awake, be, proc, tick_of, due, last_of}
 use Rattle.rules.proofs.Together.{Awake, Together}
 use Rattle.rules.proofs.Cases.{runs_of, open_at, open_case, move_in}
 use Rattle.rules.proofs.Books.{RunningBooks, Books, opens_books, runs_on_books, ends_exact, closes_books}

@@ -1,5 +1,5 @@
 -- THE RECORD
-use Rattle.std.specs.Prelude.{List, [], ◌∷◌, ◌++◌, map, ℕ, zero, suc, ◌+◌, ◌-◌, eqb, take, drop, replicate, if◌then◌else◌}
+use Rattle.std.specs.Prelude.{List, [], ◌∷◌, ◌++◌, map, ℕ, zero, suc, ◌-◌, eqb, take, drop, replicate, if◌then◌else◌}
 use Rattle.ground.specs.Sums.{up_from}
 use Rattle.ground.specs.Bytes.{le, number}
 use Rattle.rules.specs.Bounds.{slot_count}
