@@ -13,7 +13,6 @@ use lib.Dec.{ltb, eqb}
 use lib.ListN.{length, get_or, set, take, length-set}
 use lib.Seq.{get_or-set_same, get_or-set_other, set-set, get_or-take, length-take-le}
 use Rattle.state.specs.declared.State.{State}
-use Rattle.rules.specs.State as Rules
 use Rattle.rules.specs.Calls as Calls
 use Rattle.rules.specs.Calls.{lowest_idle, wake, arrive_idle, arrive_in, arriving}
 use Rattle.rules.specs.Events.{seize}

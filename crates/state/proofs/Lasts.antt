@@ -7,7 +7,7 @@ use mathlib.Core.List.{List}
 use Prim.Native.Nat.{ℕ, ◌+◌, max, ◌<◌}
 use lib.Dec.{ltb}
 use lib.ListN.{get_or}
-use Rattle.rules.specs.State.{Task, at, period, short, is_awake, last_of, due, soonest}
+use Rattle.rules.specs.State.{Task, at, short, is_awake, last_of, due, soonest}
 use Rattle.rules.proofs.Lasts.{last_is, never}
 use Rattle.rules.specs.Calls.{too_soon}
 use Rattle.table.specs.declared.Table.{Table}

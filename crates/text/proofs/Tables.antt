@@ -1,6 +1,6 @@
 -- The table's bytes read back as the rows of the text
 use Rattle.std.specs.Prelude.{if◌then◌else◌}
-use Prim.Native.Nat.{ℕ, zero, suc, ◌+◌, ◌*◌, ◌-◌, ◌≤◌, ◌<◌}
+use Prim.Native.Nat.{ℕ, zero, suc, ◌*◌, ◌-◌, ◌≤◌, ◌<◌}
 use mathlib.Core.Path.{◌≡◌, refl, ◌∙◌}
 use mathlib.Core.Bool.{Bool, true, false, ◌&&◌}
 use mathlib.Core.List.{List, [], ◌∷◌, ◌++◌, map}
@@ -9,7 +9,6 @@ use lib.Dec.{leb, ltb}
 use lib.ListN.{length, take, drop, length-take}
 use lib.Seq.{take_all}
 use Rattle.ground.specs.Tests.{every}
-use Rattle.ground.specs.Bytes.{number}
 use Rattle.ground.proofs.Tests.{leb_says, of_true}
 use Rattle.rules.specs.Table.{Row, rows_of}
 use Rattle.rules.proofs.Reading.{RowsFit, length_table, table_rows}

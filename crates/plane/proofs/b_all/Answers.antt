@@ -8,8 +8,10 @@ loop-plane-init c = turning_from c.requires.fit
 
 pub b_one-k-requires : goal.b_one-k-requires
 b_one-k-requires c =
-    record { fit = let l = c.loop-plane in
-    (b_some (work c.args.plane l.k l.rk l.rt l.wk l.wt l.slots) (sym c.is_due.ensures.is ∙ c.loop-plane-test.true), l.invariant.fit) }
+    record {
+      fit = let l = c.loop-plane in
+          (b_some (work c.args.plane l.k l.rk l.rt l.wk l.wt l.slots) (sym c.is_due.ensures.is ∙ c.loop-plane-test.true), l.invariant.fit);
+    }
 
 pub loop-plane-smaller : goal.loop-plane-smaller
 loop-plane-smaller c = turn_less _ _ (sym c.is_due.ensures.is ∙ c.loop-plane-test.true) c.b_one-k.ensures.is

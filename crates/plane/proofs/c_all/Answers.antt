@@ -12,9 +12,11 @@ returns-then-not-is_due c = record { is = seizing_stays _ c.loop-left.invariant 
 
 pub c_one-k-requires : goal.c_one-k-requires
 c_one-k-requires c =
-    record { fit = let l = c.loop-left in
-    let e = sym c.is_due.ensures.is ∙ c.if-not-is_due.false in
-    (c_some (work c.args.plane l.k l.rk l.rt l.wk l.wt l.slots) e, seizing_yields _ c.loop-left-test.true l.invariant e, l.invariant.fit) }
+    record {
+      fit = let l = c.loop-left in
+          let e = sym c.is_due.ensures.is ∙ c.if-not-is_due.false in
+          (c_some (work c.args.plane l.k l.rk l.rt l.wk l.wt l.slots) e, seizing_yields _ c.loop-left-test.true l.invariant e, l.invariant.fit);
+    }
 
 pub loop-left-preserved : goal.loop-left-preserved
 loop-left-preserved c = seizing_on _ c.loop-left-test.true c.loop-left.invariant (sym c.is_due.ensures.is ∙ c.if-not-is_due.false) c.c_one-k.ensures.is

@@ -14,20 +14,24 @@ between-a-requires c = record { ordered = rw c.least_key.ensures.is (omega (arit
 
 pub place-running-requires : goal.place-running-requires
 place-running-requires c =
-    record { room = let f = c.requires.fit.1.timely in
-    let n = c.if-n-gt0.true in
-    let k = wait_top f n in
-    (wait_fits_run f n, c.requires.fit.0, omega (arith, up_to c.args.plane.close.0 c.least_key.ensures.is c.between-a.ensures.is, k.0, k.1, f.small)) }
+    record {
+      room = let f = c.requires.fit.1.timely in
+          let n = c.if-n-gt0.true in
+          let k = wait_top f n in
+          (wait_fits_run f n, c.requires.fit.0, omega (arith, up_to c.args.plane.close.0 c.least_key.ensures.is c.between-a.ensures.is, k.0, k.1, f.small));
+    }
 
 pub returns-then-n-gt0 : goal.returns-then-n-gt0
 unfolding give_top place unqueue
 returns-then-n-gt0 c =
-    record { is = let a = c.args in
-    let t = c.least_task-task.ensures.is in
-    rw (lt-ltb _ _ c.if-n-gt0.true)
-    (work_is (work c.args.plane c.args.n c.args.rk.now c.args.rt.now c.args.wk.now c.args.wt.now c.args.slots.now)
-    (pushed _ c.place-running.ensures.is.0 (ap (λ (x : ℕ). a.plane.now.0 + x) (up_to a.plane.close.0 c.least_key.ensures.is c.between-a.ensures.is)) t)
-    c.pop-waiting.ensures.is (c.place-running.ensures.is.1 ∙ ap (λ (x : ℕ). set a.slots.now a.p x) t)) }
+    record {
+      is = let a = c.args in
+          let t = c.least_task-task.ensures.is in
+          rw (lt-ltb _ _ c.if-n-gt0.true)
+          (work_is (work c.args.plane c.args.n c.args.rk.now c.args.rt.now c.args.wk.now c.args.wt.now c.args.slots.now)
+          (pushed _ c.place-running.ensures.is.0 (ap (λ (x : ℕ). a.plane.now.0 + x) (up_to a.plane.close.0 c.least_key.ensures.is c.between-a.ensures.is)) t)
+          c.pop-waiting.ensures.is (c.place-running.ensures.is.1 ∙ ap (λ (x : ℕ). set a.slots.now a.p x) t));
+    }
 
 pub returns : goal.returns
 unfolding give_top

@@ -15,8 +15,10 @@ returns-then-below c = record { is = rw (eq-eqb _ 0 (sym c.lowest_idle-p.ensures
 
 pub seize_top-requires : goal.seize_top-requires
 seize_top-requires c =
-    record { fit = let p = c.requires.fit in
-    (p.amount, p.yields (sym c.lowest_idle-p.ensures.is ∙ c.if-p-eq0.true), p.fit) }
+    record {
+      fit = let p = c.requires.fit in
+          (p.amount, p.yields (sym c.lowest_idle-p.ensures.is ∙ c.if-p-eq0.true), p.fit);
+    }
 
 pub returns-then-p-eq0 : goal.returns-then-p-eq0
 unfolding joins
@@ -24,14 +26,18 @@ returns-then-p-eq0 c = record { is = rw (eq-eqb _ 0 (sym c.lowest_idle-p.ensures
 
 pub place-running-requires : goal.place-running-requires
 place-running-requires c =
-    record { room = let seats = c.requires.fit.fit.timely.tidy.seats in (
-      c.requires.fit.run_room,
-      omega (arith, idle_inside c.args.plane.m c.args.slots.now seats.room seats.most _ (sym c.lowest_idle-p.ensures.is), seats.most),
-      omega (arith, c.requires.fit.amount, c.requires.fit.fit.timely.small),
-    ) }
+    record {
+      room = let seats = c.requires.fit.fit.timely.tidy.seats in (
+        c.requires.fit.run_room,
+        omega (arith, idle_inside c.args.plane.m c.args.slots.now seats.room seats.most _ (sym c.lowest_idle-p.ensures.is), seats.most),
+        omega (arith, c.requires.fit.amount, c.requires.fit.fit.timely.small),
+      );
+    }
 
 pub returns : goal.returns
 unfolding joins place
 returns c =
-    record { is = let e = c.lowest_idle-p.ensures.is in
-    rw (ne_eqb _ 0 (λ z. c.if-p-eq0.false (e ∙ z))) (work_is (work c.args.plane c.args.n c.args.rk.now c.args.rt.now c.args.wk.now c.args.wt.now c.args.slots.now) c.place-running.ensures.is.0 refl (c.place-running.ensures.is.1 ∙ ap (λ (x : ℕ). set c.args.slots.now (x - 1) c.args.task) e)) }
+    record {
+      is = let e = c.lowest_idle-p.ensures.is in
+          rw (ne_eqb _ 0 (λ z. c.if-p-eq0.false (e ∙ z))) (work_is (work c.args.plane c.args.n c.args.rk.now c.args.rt.now c.args.wk.now c.args.wt.now c.args.slots.now) c.place-running.ensures.is.0 refl (c.place-running.ensures.is.1 ∙ ap (λ (x : ℕ). set c.args.slots.now (x - 1) c.args.task) e));
+    }

@@ -9,9 +9,11 @@ loop-p-init c = (search rules, seeks_from _ _)
 
 pub returns-then-slots-p-eq0 : goal.returns-then-slots-p-eq0
 returns-then-slots-p-eq0 c =
-    record { is = let k = c.loop-p in
-    let a = c.args in
-    seeks_found k.invariant.1 (omega (arith, first_length a.m a.slots.now k.invariant.0 (omega arith))) (first_at a.m a.slots.now k.invariant.0 (omega arith) (omega arith) ∙ c.if-slots-p-eq0.true) }
+    record {
+      is = let k = c.loop-p in
+          let a = c.args in
+          seeks_found k.invariant.1 (omega (arith, first_length a.m a.slots.now k.invariant.0 (omega arith))) (first_at a.m a.slots.now k.invariant.0 (omega arith) (omega arith) ∙ c.if-slots-p-eq0.true);
+    }
 
 pub loop-p-preserved : goal.loop-p-preserved
 loop-p-preserved c =
@@ -21,6 +23,8 @@ loop-p-preserved c =
 
 pub returns : goal.returns
 returns c =
-    record { is = let k = c.loop-p in
-    let a = c.args in
-    seeks_past k.invariant.1 (omega (arith, first_length a.m a.slots.now k.invariant.0 (omega arith))) }
+    record {
+      is = let k = c.loop-p in
+          let a = c.args in
+          seeks_past k.invariant.1 (omega (arith, first_length a.m a.slots.now k.invariant.0 (omega arith)));
+    }

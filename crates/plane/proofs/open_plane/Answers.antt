@@ -13,9 +13,11 @@ loop-i-init c =
 
 pub enter_row-n-requires : goal.enter_row-n-requires
 enter_row-n-requires c =
-    record { fit = let i = c.loop-i.invariant in
-    let h = c.loop-i-test.true in
-    (entering_row i h, entering_may i h) }
+    record {
+      fit = let i = c.loop-i.invariant in
+          let h = c.loop-i-test.true in
+          (entering_row i h, entering_may i h);
+    }
 
 pub loop-i-preserved : goal.loop-i-preserved
 loop-i-preserved c = entering_on c.loop-i.invariant c.loop-i-test.true c.enter_row-n.ensures.is

@@ -8,8 +8,10 @@ loop-i-init c = (search rules, seeks_from _ _)
 
 pub returns-then-slots-i : goal.returns-then-slots-i
 returns-then-slots-i c =
-    record { is = let k = c.loop-i in
-    seeks_found k.invariant.1 (omega (arith, k.invariant.0)) c.if-slots-i.true }
+    record {
+      is = let k = c.loop-i in
+          seeks_found k.invariant.1 (omega (arith, k.invariant.0)) c.if-slots-i.true;
+    }
 
 pub loop-i-preserved : goal.loop-i-preserved
 loop-i-preserved c =
@@ -18,5 +20,7 @@ loop-i-preserved c =
 
 pub returns : goal.returns
 returns c =
-    record { is = let k = c.loop-i in
-    seeks_past k.invariant.1 (omega (arith, k.invariant.0)) }
+    record {
+      is = let k = c.loop-i in
+          seeks_past k.invariant.1 (omega (arith, k.invariant.0));
+    }

@@ -15,11 +15,13 @@ quotient-requires c = record { some = let k = c.loop-i in c.requires.inside.1 k.
 
 pub returns-then-g-eq1 : goal.returns-then-g-eq1
 returns-then-g-eq1 c =
-    record { is = let a = c.args in
-    let k = c.loop-i in
-    let t = c.loop-i-test.true in
-    let e = common_turn a.scale a.period.now a.deadline.now k.i k.g _ _ k.invariant.1 c.quotient.ensures.is c.gcd-g.ensures.is in
-    sym (eq-eqb _ _ (common_whole a.scale a.period.now a.deadline.now (k.i + 1) a.count (omega arith) (sym e ∙ c.if-g-eq1.true))) }
+    record {
+      is = let a = c.args in
+          let k = c.loop-i in
+          let t = c.loop-i-test.true in
+          let e = common_turn a.scale a.period.now a.deadline.now k.i k.g _ _ k.invariant.1 c.quotient.ensures.is c.gcd-g.ensures.is in
+          sym (eq-eqb _ _ (common_whole a.scale a.period.now a.deadline.now (k.i + 1) a.count (omega arith) (sym e ∙ c.if-g-eq1.true)));
+    }
 
 pub loop-i-preserved : goal.loop-i-preserved
 loop-i-preserved c =
@@ -29,7 +31,9 @@ loop-i-preserved c =
 
 pub returns : goal.returns
 returns c =
-    record { is = let a = c.args in
-    let k = c.loop-i in
-    let e : k.i ≡ a.count = omega arith in
-    ap (λ (g : ℕ). eqb g 1) (k.invariant.1 ∙ ap (λ (i : ℕ). common_below a.scale a.period.now a.deadline.now i) e) }
+    record {
+      is = let a = c.args in
+          let k = c.loop-i in
+          let e : k.i ≡ a.count = omega arith in
+          ap (λ (g : ℕ). eqb g 1) (k.invariant.1 ∙ ap (λ (i : ℕ). common_below a.scale a.period.now a.deadline.now i) e);
+    }

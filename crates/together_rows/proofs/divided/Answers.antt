@@ -14,15 +14,19 @@ quotient-d-requires c = record { some = let a = c.args in (row_within a.period a
 
 pub share_ok-requires : goal.share_ok-requires
 share_ok-requires c =
-    record { small = let a = c.args in
-    let r = row_within a.period a.exec a.deadline (sym c.row_ok.ensures.is ∙ not-false _ c.if-not-row_ok.false-raw) in
-    (c.requires.small, r.exec, c.quotient-d.ensures.is) }
+    record {
+      small = let a = c.args in
+          let r = row_within a.period a.exec a.deadline (sym c.row_ok.ensures.is ∙ not-false _ c.if-not-row_ok.false-raw) in
+          (c.requires.small, r.exec, c.quotient-d.ensures.is);
+    }
 
 pub returns-then-not-share_ok : goal.returns-then-not-share_ok
 returns-then-not-share_ok c = record { is = let a = c.args in fails_next (row_ok a.period a.exec a.deadline) (share_ok a.scale (min a.period a.deadline) a.exec a.share) (a.scale / min a.period a.deadline) (sym c.share_ok.ensures.is ∙ not-true _ c.if-not-share_ok.true-raw) }
 
 pub returns : goal.returns
 returns c =
-    record { is = let a = c.args in
-    c.quotient-d.ensures.is
-    ∙ holds_both (row_ok a.period a.exec a.deadline) (share_ok a.scale (min a.period a.deadline) a.exec a.share) (a.scale / min a.period a.deadline) (sym c.row_ok.ensures.is ∙ not-false _ c.if-not-row_ok.false-raw) (sym c.share_ok.ensures.is ∙ not-false _ c.if-not-share_ok.false-raw) }
+    record {
+      is = let a = c.args in
+          c.quotient-d.ensures.is
+          ∙ holds_both (row_ok a.period a.exec a.deadline) (share_ok a.scale (min a.period a.deadline) a.exec a.share) (a.scale / min a.period a.deadline) (sym c.row_ok.ensures.is ∙ not-false _ c.if-not-row_ok.false-raw) (sym c.share_ok.ensures.is ∙ not-false _ c.if-not-share_ok.false-raw);
+    }

@@ -21,6 +21,8 @@ overflow_add-result-2 c = let a = c.args in let p = c.requires.small in let q = 
 
 pub returns : goal.returns
 returns c =
-    record { is = let a = c.args in
-    rw c.if-awake.false
-    (ap (λ (x : ℕ). leb a.end (x + c.wide_word-q.result)) c.soonest-s.ensures.is ∙ ap (λ (x : ℕ). leb a.end (soonest_of a.arrived a.last a.period a.ceil + x)) (c.wide_word-q.ensures.is ∙ c.shorter.ensures.is)) }
+    record {
+      is = let a = c.args in
+          rw c.if-awake.false
+          (ap (λ (x : ℕ). leb a.end (x + c.wide_word-q.result)) c.soonest-s.ensures.is ∙ ap (λ (x : ℕ). leb a.end (soonest_of a.arrived a.last a.period a.ceil + x)) (c.wide_word-q.ensures.is ∙ c.shorter.ensures.is));
+    }

@@ -14,9 +14,11 @@ next_ok-requires c = record { inside = let k = c.loop-k in (k.invariant.inside, 
 
 pub returns-then-not-next_ok : goal.returns-then-not-next_ok
 returns-then-not-next_ok c =
-    record { is = let a = c.args in
-    let k = c.loop-k in
-    sym (falls_stops a.share.now a.order.now a.count k.k k.i _ k.invariant c.place-j.ensures.is c.loop-k-test.true (sym c.next_ok.ensures.is ∙ not-true _ c.if-not-next_ok.true-raw)) }
+    record {
+      is = let a = c.args in
+          let k = c.loop-k in
+          sym (falls_stops a.share.now a.order.now a.count k.k k.i _ k.invariant c.place-j.ensures.is c.loop-k-test.true (sym c.next_ok.ensures.is ∙ not-true _ c.if-not-next_ok.true-raw));
+    }
 
 pub loop-k-preserved : goal.loop-k-preserved
 loop-k-preserved c =
@@ -26,6 +28,8 @@ loop-k-preserved c =
 
 pub returns : goal.returns
 returns c =
-    record { is = let a = c.args in
-    let k = c.loop-k in
-    falls_end a.share.now a.order.now a.count k.k k.i k.invariant c.requires.inside.0 c.loop-k-test.false }
+    record {
+      is = let a = c.args in
+          let k = c.loop-k in
+          falls_end a.share.now a.order.now a.count k.k k.i k.invariant c.requires.inside.0 c.loop-k-test.false;
+    }

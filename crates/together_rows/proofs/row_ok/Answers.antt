@@ -14,7 +14,9 @@ returns-then-shorter-exec c = record { is = let a = c.args in let s = c.shorter.
 
 pub returns : goal.returns
 returns c =
-    record { is = let a = c.args in
-    let s = c.shorter.ensures.is in
-    let h = c.if-shorter-exec.false in
-    ap (λ (x : ℕ). leb x most_ticks) c.longer.ensures.is ∙ row_longer a.period a.exec a.deadline c.if-exec-eq0.false (omega arith) }
+    record {
+      is = let a = c.args in
+          let s = c.shorter.ensures.is in
+          let h = c.if-shorter-exec.false in
+          ap (λ (x : ℕ). leb x most_ticks) c.longer.ensures.is ∙ row_longer a.period a.exec a.deadline c.if-exec-eq0.false (omega arith);
+    }

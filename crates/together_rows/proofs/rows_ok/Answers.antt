@@ -15,20 +15,24 @@ divided-d-requires c = record { small = c.requires.inside.2 }
 
 pub returns-then-d-eq0 : goal.returns-then-d-eq0
 returns-then-d-eq0 c =
-    record { is = let a = c.args in
-    let k = c.loop-i in
-    let e = row_stops a.scale a.period.now a.exec.now a.deadline.now a.share.now a.arrived.now a.awake.now a.last.now a.tick a.ceil a.reach a.count k.i _ c.divided-d.ensures.is c.requires.inside.1 c.loop-i-test.true c.if-d-eq0.true in
-    (sym e, λ f. clash false refl f) }
+    record {
+      is = let a = c.args in
+          let k = c.loop-i in
+          let e = row_stops a.scale a.period.now a.exec.now a.deadline.now a.share.now a.arrived.now a.awake.now a.last.now a.tick a.ceil a.reach a.count k.i _ c.divided-d.ensures.is c.requires.inside.1 c.loop-i-test.true c.if-d-eq0.true in
+          (sym e, λ f. clash false refl f);
+    }
 
 pub job_ok-requires : goal.job_ok-requires
 job_ok-requires c = record { small = let p = c.requires.inside in (p.3, p.4) }
 
 pub returns-then-not-job_ok : goal.returns-then-not-job_ok
 returns-then-not-job_ok c =
-    record { is = let a = c.args in
-    let k = c.loop-i in
-    let e = job_stops a.scale a.period.now a.exec.now a.deadline.now a.share.now a.arrived.now a.awake.now a.last.now a.tick a.ceil a.reach a.count k.i c.loop-i-test.true (sym c.job_ok.ensures.is ∙ not-true _ c.if-not-job_ok.true-raw) in
-    (sym e, λ f. clash false refl f) }
+    record {
+      is = let a = c.args in
+          let k = c.loop-i in
+          let e = job_stops a.scale a.period.now a.exec.now a.deadline.now a.share.now a.arrived.now a.awake.now a.last.now a.tick a.ceil a.reach a.count k.i c.loop-i-test.true (sym c.job_ok.ensures.is ∙ not-true _ c.if-not-job_ok.true-raw) in
+          (sym e, λ f. clash false refl f);
+    }
 
 pub overflow_add-total : goal.overflow_add-total
 overflow_add-total c =
@@ -58,8 +62,10 @@ loop-i-preserved c =
 
 pub returns : goal.returns
 returns c =
-    record { is = let a = c.args in
-    let k = c.loop-i in
-    let e : k.i ≡ a.count = omega arith in
-    let P = subst (λ (n : ℕ). Passed a.scale a.period.now a.exec.now a.deadline.now a.share.now a.arrived.now a.awake.now a.last.now a.tick a.ceil a.reach n k.whole k.total k.shares) e k.invariant.1 in
-    (sym P.rows, λ _. P.sums) }
+    record {
+      is = let a = c.args in
+          let k = c.loop-i in
+          let e : k.i ≡ a.count = omega arith in
+          let P = subst (λ (n : ℕ). Passed a.scale a.period.now a.exec.now a.deadline.now a.share.now a.arrived.now a.awake.now a.last.now a.tick a.ceil a.reach n k.whole k.total k.shares) e k.invariant.1 in
+          (sym P.rows, λ _. P.sums);
+    }

@@ -15,16 +15,20 @@ returns-then-not-processors_ok c = record { is = let a = c.args in sym (and_firs
 
 pub returns-then-not-count_ok : goal.returns-then-not-count_ok
 returns-then-not-count_ok c =
-    record { is = let a = c.args in
-    sym (and_next (processors_ok a.m) _ (sym c.processors_ok.ensures.is ∙ not-false _ c.if-not-processors_ok.false-raw)
-    ∙ and_first (leb 1 a.count && leb a.count 128) _ (sym c.count_ok.ensures.is ∙ not-true _ c.if-not-count_ok.true-raw)) }
+    record {
+      is = let a = c.args in
+          sym (and_next (processors_ok a.m) _ (sym c.processors_ok.ensures.is ∙ not-false _ c.if-not-processors_ok.false-raw)
+          ∙ and_first (leb 1 a.count && leb a.count 128) _ (sym c.count_ok.ensures.is ∙ not-true _ c.if-not-count_ok.true-raw));
+    }
 
 pub returns-then-not-scale_in_range : goal.returns-then-not-scale_in_range
 returns-then-not-scale_in_range c =
-    record { is = let a = c.args in
-    sym (and_next (processors_ok a.m) _ (sym c.processors_ok.ensures.is ∙ not-false _ c.if-not-processors_ok.false-raw)
-    ∙ and_next (leb 1 a.count && leb a.count 128) _ (sym c.count_ok.ensures.is ∙ not-false _ c.if-not-count_ok.false-raw)
-    ∙ and_first (scale_in_range a.scale) _ (sym c.scale_in_range.ensures.is ∙ not-true _ c.if-not-scale_in_range.true-raw)) }
+    record {
+      is = let a = c.args in
+          sym (and_next (processors_ok a.m) _ (sym c.processors_ok.ensures.is ∙ not-false _ c.if-not-processors_ok.false-raw)
+          ∙ and_next (leb 1 a.count && leb a.count 128) _ (sym c.count_ok.ensures.is ∙ not-false _ c.if-not-count_ok.false-raw)
+          ∙ and_first (scale_in_range a.scale) _ (sym c.scale_in_range.ensures.is ∙ not-true _ c.if-not-scale_in_range.true-raw));
+    }
 
 pub overflow_mul-result : goal.overflow_mul-result
 overflow_mul-result c =
@@ -34,7 +38,9 @@ overflow_mul-result c =
 
 pub returns : goal.returns
 returns c =
-    record { is = let a = c.args in
-    sym (and_next (processors_ok a.m) _ (sym c.processors_ok.ensures.is ∙ not-false _ c.if-not-processors_ok.false-raw)
-    ∙ and_next (leb 1 a.count && leb a.count 128) _ (sym c.count_ok.ensures.is ∙ not-false _ c.if-not-count_ok.false-raw)
-    ∙ and_next (scale_in_range a.scale) _ (sym c.scale_in_range.ensures.is ∙ not-false _ c.if-not-scale_in_range.false-raw)) }
+    record {
+      is = let a = c.args in
+          sym (and_next (processors_ok a.m) _ (sym c.processors_ok.ensures.is ∙ not-false _ c.if-not-processors_ok.false-raw)
+          ∙ and_next (leb 1 a.count && leb a.count 128) _ (sym c.count_ok.ensures.is ∙ not-false _ c.if-not-count_ok.false-raw)
+          ∙ and_next (scale_in_range a.scale) _ (sym c.scale_in_range.ensures.is ∙ not-false _ c.if-not-scale_in_range.false-raw));
+    }
