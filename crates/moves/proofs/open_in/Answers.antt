@@ -4,8 +4,10 @@ use Rattle.moves.proofs.open_in.Goals as goal
 
 pub returns-then-moment : goal.returns-then-moment
 returns-then-moment c =
-    record { is = let a = c.args in
-    λ z. opened_on (step_state z a.terms a.moment a.period a.deadline a.share a.order a.awake a.last a.rk a.rt a.wk a.wt a.slots) c.if-moment.true }
+    record {
+      is = let a = c.args in
+          λ z. opened_on (step_state z a.terms a.moment a.period.now a.deadline.now a.share.now a.order.now a.awake.now a.last.now a.rk.now a.rt.now a.wk.now a.wt.now a.slots.now) c.if-moment.true;
+    }
 
 pub nonzero_div-tick : goal.nonzero_div-tick
 nonzero_div-tick c = (can_open _ c.requires.whole.1 c.if-moment.false).scale_pos
@@ -13,8 +15,8 @@ nonzero_div-tick c = (can_open _ c.requires.whole.1 c.if-moment.false).scale_pos
 pub plane_end-end_tick-requires : goal.plane_end-end_tick-requires
 plane_end-end_tick-requires c = record { came = let k = can_open _ c.requires.whole.1 c.if-moment.false in (k.some_row, k.came) }
 
--- mul_close : tie.Need-overflow-mul-t22
--- mul_close c = record { fits = (can_open_to _ c.before.before.before.before.before.before.requires.1 c.before.before.before.before.before.if1.false _ c.before.plane-end.ensures).small }
+pub overflow_mul-close : goal.overflow_mul-close
+overflow_mul-close c = record { fits = (can_open_to _ c.requires.whole.1 c.if-moment.false _ c.plane_end-end_tick.ensures.is).small }
 
 pub overflow_sub-len : goal.overflow_sub-len
 overflow_sub-len c = (can_open_to _ c.requires.whole.1 c.if-moment.false _ c.plane_end-end_tick.ensures.is).later
@@ -24,5 +26,7 @@ open_plane-lengths-requires c = record { fit = (can_open_to _ c.requires.whole.1
 
 pub returns : goal.returns
 returns c =
-    record { is = let a = c.args in
-    λ z. opened_off (step_state z a.terms a.moment a.period a.deadline a.share a.order a.awake a.last a.rk a.rt a.wk a.wt a.slots) c.if-moment.false _ c.plane_end-end_tick.ensures.is _ c.open_plane-lengths.ensures.is }
+    record {
+      is = let a = c.args in
+          λ z. opened_off (step_state z a.terms a.moment a.period.now a.deadline.now a.share.now a.order.now a.awake.now a.last.now a.rk.now a.rt.now a.wk.now a.wt.now a.slots.now) c.if-moment.false _ c.plane_end-end_tick.ensures.is _ c.open_plane-lengths.ensures.is;
+    }

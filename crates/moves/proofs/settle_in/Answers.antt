@@ -6,21 +6,25 @@ use Rattle.moves.proofs.Moving.{end_fits, settle_came, settle_fit, moved_end, mo
 use Rattle.moves.proofs.Parts.{closed_parts}
 use Rattle.moves.proofs.settle_in.Goals as goal
 
--- mul_close : tie.Need-overflow-mul-t17
--- mul_close c = let S = c.before.before.requires.1 in record { fits = (end_fits _ S.whole S.on).0 }
+pub overflow_mul-close : goal.overflow_mul-close
+overflow_mul-close c = let S = c.requires.next.1 in record { fits = (end_fits _ S.whole S.on).0 }
 
 pub sleep_all-requires : goal.sleep_all-requires
 sleep_all-requires c = record { came = settle_came _ _ c.requires.next.1 }
 
 pub returns-then-to-close : goal.returns-then-to-close
 returns-then-to-close c =
-    record { is = let a = c.args in
-    λ z. closed_parts (plane_state z a.terms a.moment a.period a.deadline a.awake a.last a.rk a.rt a.wk a.wt a.slots) a.to.0 _ _ c.sleep_all.ensures.is c.clear_slots.ensures.is ∙ moved_end _ _ c.if-to-close.true }
+    record {
+      is = let a = c.args in
+          λ z. closed_parts (plane_state z a.terms a.moment a.period.now a.deadline.now a.awake.now a.last.now a.rk.now a.rt.now a.wk.now a.wt.now a.slots.now) a.to.0 _ _ c.sleep_all.ensures.is c.clear_slots.ensures.is ∙ moved_end _ _ c.if-to-close.true;
+    }
 
 pub events-lengths-requires : goal.events-lengths-requires
 events-lengths-requires c = record { fit = settle_fit _ _ c.requires.next.1 c.if-to-close.false }
 
 pub returns : goal.returns
 returns c =
-    record { is = let a = c.args in
-    λ z. ap (λ (w : Work). with_work (plane_state z a.terms a.moment a.period a.deadline a.awake a.last a.rk a.rt a.wk a.wt a.slots) w) c.events-lengths.ensures.is ∙ moved_on _ _ c.if-to-close.false }
+    record {
+      is = let a = c.args in
+          λ z. ap (λ (w : Work). with_work (plane_state z a.terms a.moment a.period.now a.deadline.now a.awake.now a.last.now a.rk.now a.rt.now a.wk.now a.wt.now a.slots.now) w) c.events-lengths.ensures.is ∙ moved_on _ _ c.if-to-close.false;
+    }
