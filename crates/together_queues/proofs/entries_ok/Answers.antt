@@ -21,7 +21,7 @@ returns-then-not-key_ok c =
     let p = c.requires.inside in
     let z = c.measure.ensures.is in
     let k = c.loop-i in
-    (sym (key_fails a.present.0 a.top a.n a.count a.ok.now a.keys.now a.tasks.now a.marks.now k.i c.loop-i-test.true (ap (λ (x : ℕ). key_ok a.present.0 a.top x (get_or a.keys.now k.i 0)) (sym c.place-t.ensures.is) ∙ sym c.key_ok.ensures.is ∙ c.if-not-key_ok.true), λ f. clash false refl f) }
+    (sym (key_fails a.present.0 a.top a.n a.count a.ok.now a.keys.now a.tasks.now a.marks.now k.i c.loop-i-test.true (ap (λ (x : ℕ). key_ok a.present.0 a.top x (get_or a.keys.now k.i 0)) (sym c.place-t.ensures.is) ∙ sym c.key_ok.ensures.is ∙ c.if-not-key_ok.true)), λ f. clash false refl f) }
 
 pub returns-then-not-is_fresh : goal.returns-then-not-is_fresh
 returns-then-not-is_fresh c =
@@ -29,7 +29,7 @@ returns-then-not-is_fresh c =
     let p = c.requires.inside in
     let z = c.measure.ensures.is in
     let k = c.loop-i in
-    (sym (fresh_fails a.present.0 a.top a.n a.count a.ok.now a.keys.now a.tasks.now a.marks.now k.invariant (omega arith) c.loop-i-test.true (ap (fresh a.count a.ok.now k.marks) (sym c.place-t.ensures.is) ∙ sym c.is_fresh.ensures.is ∙ c.if-not-is_fresh.true), λ f. clash false refl f) }
+    (sym (fresh_fails a.present.0 a.top a.n a.count a.ok.now a.keys.now a.tasks.now a.marks.now k.invariant (omega arith) c.loop-i-test.true (ap (fresh a.count a.ok.now k.marks) (sym c.place-t.ensures.is) ∙ sym c.is_fresh.ensures.is ∙ c.if-not-is_fresh.true)), λ f. clash false refl f) }
 
 pub returns-then-not-in_turn : goal.returns-then-not-in_turn
 returns-then-not-in_turn c =
@@ -37,7 +37,7 @@ returns-then-not-in_turn c =
     let p = c.requires.inside in
     let z = c.measure.ensures.is in
     let k = c.loop-i in
-    (sym (turn_fails a.present.0 a.top a.n a.count a.ok.now a.keys.now a.tasks.now a.marks.now k.i z p.0 c.loop-i-test.true (sym c.in_turn.ensures.is ∙ c.if-not-in_turn.true), λ f. clash false refl f) }
+    (sym (turn_fails a.present.0 a.top a.n a.count a.ok.now a.keys.now a.tasks.now a.marks.now k.i z p.0 c.loop-i-test.true (sym c.in_turn.ensures.is ∙ c.if-not-in_turn.true)), λ f. clash false refl f) }
 
 pub note-requires : goal.note-requires
 note-requires c =
@@ -45,7 +45,7 @@ note-requires c =
     let p = c.requires.inside in
     let z = c.measure.ensures.is in
     let k = c.loop-i in
-    fresh_low a.count a.ok.now k.marks c.place-t.result p.1 (sym c.is_fresh.ensures.is ∙ c.if-not-is_fresh.false }
+    fresh_low a.count a.ok.now k.marks c.place-t.result p.1 (sym c.is_fresh.ensures.is ∙ c.if-not-is_fresh.false) }
 
 pub loop-i-preserved : goal.loop-i-preserved
 loop-i-preserved c =
@@ -54,8 +54,8 @@ loop-i-preserved c =
     let z = c.measure.ensures.is in
     let k = c.loop-i in
     rw (c.note.ensures.is ∙ ap (mark k.marks) c.place-t.ensures.is)
-    (walked_on a.present.0 a.top a.n a.count a.ok.now a.keys.now a.tasks.now a.marks.now k.invariant (omega arith) c.loop-i-test.true (ap (λ (x : ℕ). key_ok a.present.0 a.top x (get_or a.keys.now k.i 0)) (sym c.place-t.ensures.is) ∙ sym c.key_ok.ensures.is ∙ c.if-not-key_ok.false (ap (fresh a.count a.ok.now k.marks) (sym c.place-t.ensures.is) ∙ sym c.is_fresh.ensures.is ∙ c.if-not-is_fresh.false
-    (sym c.in_turn.ensures.is ∙ c.if-not-in_turn.false _ refl)
+    (walked_on a.present.0 a.top a.n a.count a.ok.now a.keys.now a.tasks.now a.marks.now k.invariant (omega arith) c.loop-i-test.true (ap (λ (x : ℕ). key_ok a.present.0 a.top x (get_or a.keys.now k.i 0)) (sym c.place-t.ensures.is) ∙ sym c.key_ok.ensures.is ∙ c.if-not-key_ok.false) (ap (fresh a.count a.ok.now k.marks) (sym c.place-t.ensures.is) ∙ sym c.is_fresh.ensures.is ∙ c.if-not-is_fresh.false)
+    (sym c.in_turn.ensures.is ∙ c.if-not-in_turn.false) _ refl)
 
 pub overflow_sub-sum : goal.overflow_sub-sum
 overflow_sub-sum c =
@@ -64,7 +64,7 @@ overflow_sub-sum c =
     let z = c.measure.ensures.is in
     let k = c.loop-i in
     let t = c.loop-i-test.true in
-    let s = sum_small a.present.0 a.top a.n a.count a.ok.now a.keys.now a.tasks.now a.marks.now k.invariant (omega arith) (longest * most_scale) p.2 (omega arith) (ap (λ (x : ℕ). key_ok a.present.0 a.top x (get_or a.keys.now k.i 0)) (sym c.place-t.ensures.is) ∙ sym c.key_ok.ensures.is ∙ c.if-not-key_ok.false in
+    let s = sum_small a.present.0 a.top a.n a.count a.ok.now a.keys.now a.tasks.now a.marks.now k.invariant (omega arith) (longest * most_scale) p.2 (omega arith) (ap (λ (x : ℕ). key_ok a.present.0 a.top x (get_or a.keys.now k.i 0)) (sym c.place-t.ensures.is) ∙ sym c.key_ok.ensures.is ∙ c.if-not-key_ok.false) in
     omega (arith, s.0)
 
 pub overflow_add-sum : goal.overflow_add-sum
@@ -74,7 +74,7 @@ overflow_add-sum c =
     let z = c.measure.ensures.is in
     let k = c.loop-i in
     let t = c.loop-i-test.true in
-    let s = sum_small a.present.0 a.top a.n a.count a.ok.now a.keys.now a.tasks.now a.marks.now k.invariant (omega arith) (longest * most_scale) p.2 (omega arith) (ap (λ (x : ℕ). key_ok a.present.0 a.top x (get_or a.keys.now k.i 0)) (sym c.place-t.ensures.is) ∙ sym c.key_ok.ensures.is ∙ c.if-not-key_ok.false in
+    let s = sum_small a.present.0 a.top a.n a.count a.ok.now a.keys.now a.tasks.now a.marks.now k.invariant (omega arith) (longest * most_scale) p.2 (omega arith) (ap (λ (x : ℕ). key_ok a.present.0 a.top x (get_or a.keys.now k.i 0)) (sym c.place-t.ensures.is) ∙ sym c.key_ok.ensures.is ∙ c.if-not-key_ok.false) in
     omega (arith, s.1)
 
 pub returns : goal.returns

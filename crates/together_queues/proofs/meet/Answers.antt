@@ -18,7 +18,7 @@ pub note-requires : goal.note-requires
 note-requires c =
     record { inside = let a = c.args in
     let k = c.loop-i in
-    fresh_low a.count a.ok.now k.marks c.place-t.result c.requires.inside.1 (sym c.is_fresh.ensures.is ∙ c.if-not-is_fresh.false }
+    fresh_low a.count a.ok.now k.marks c.place-t.result c.requires.inside.1 (sym c.is_fresh.ensures.is ∙ c.if-not-is_fresh.false) }
 
 pub loop-i-preserved : goal.loop-i-preserved
 loop-i-preserved c =

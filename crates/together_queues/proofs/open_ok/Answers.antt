@@ -42,7 +42,7 @@ pub returns-then-not-idle_ok : goal.returns-then-not-idle_ok
 returns-then-not-idle_ok c =
     record { is = let a = c.args in
     let close = a.end * a.scale in
-    sym (open_fails a.shares a.count a.m a.scale a.present.0 close a.awake.now a.rk.now a.rt.now a.rn a.wk.now a.wt.now a.wn a.slots.now _ (λ O. O.idle) (sym c.idle_ok.ensures.is ∙ c.if-not-idle_ok.true) }
+    sym (open_fails a.shares a.count a.m a.scale a.present.0 close a.awake.now a.rk.now a.rt.now a.rn a.wk.now a.wt.now a.wn a.slots.now _ (λ O. O.idle) (sym c.idle_ok.ensures.is ∙ c.if-not-idle_ok.true)) }
 
 pub entries_ok-runs-requires : goal.entries_ok-runs-requires
 entries_ok-runs-requires c =
@@ -65,7 +65,7 @@ returns-then-not-seats_ok c =
     record { is = let a = c.args in
     let close = a.end * a.scale in
     let M = c.entries_ok-runs.ensures.is.1 (not-false _ c.if-not-runs.false) in
-    sym (open_fails a.shares a.count a.m a.scale a.present.0 close a.awake.now a.rk.now a.rt.now a.rn a.wk.now a.wt.now a.wn a.slots.now _ (λ O. O.seats) (ap (λ (l : List Bool). slots_ok a.m a.slots.now && (all_fresh a.count l a.slots.now no_marks && runs_ok a.present.0 (all_marked a.slots.now no_marks) a.rk.now a.rt.now a.rn)) (sym M.0) ∙ sym c.seats_ok.ensures.is ∙ c.if-not-seats_ok.true) }
+    sym (open_fails a.shares a.count a.m a.scale a.present.0 close a.awake.now a.rk.now a.rt.now a.rn a.wk.now a.wt.now a.wn a.slots.now _ (λ O. O.seats) (ap (λ (l : List Bool). slots_ok a.m a.slots.now && (all_fresh a.count l a.slots.now no_marks && runs_ok a.present.0 (all_marked a.slots.now no_marks) a.rk.now a.rt.now a.rn)) (sym M.0) ∙ sym c.seats_ok.ensures.is ∙ c.if-not-seats_ok.true)) }
 
 pub overflow_sub-close : goal.overflow_sub-close
 overflow_sub-close c = let h = c.if-close-present.false in omega arith
@@ -146,7 +146,7 @@ returns c =
     ∙ ap (λ (x : ℕ). sum_ok a.scale left x a.shares) e
     ∙ open_last a.shares a.count a.m a.scale a.present.0 close a.awake.now a.rk.now a.rt.now a.rn a.wk.now a.wt.now a.wn a.slots.now
     c.requires.small.rows c.requires.small.processors (lt-ltb a.present.0 close l) (le-leb a.rn 128 c.if-rn-gt128.false, le-leb a.wn 128 c.if-wn-gt128.false)
-    (sym c.idle_ok.ensures.is ∙ c.if-not-idle_ok.false (sym c.entries_ok-runs.ensures.is.0 ∙ not-false _ c.if-not-runs.false)
+    (sym c.idle_ok.ensures.is ∙ c.if-not-idle_ok.false) (sym c.entries_ok-runs.ensures.is.0 ∙ not-false _ c.if-not-runs.false)
     (ap (λ (l : List Bool). slots_ok a.m a.slots.now && (all_fresh a.count l a.slots.now no_marks && runs_ok a.present.0 (all_marked a.slots.now no_marks) a.rk.now a.rt.now a.rn)) (sym M.0)
-    ∙ sym c.seats_ok.ensures.is ∙ c.if-not-seats_ok.false
+    ∙ sym c.seats_ok.ensures.is ∙ c.if-not-seats_ok.false)
     (ap (λ (l : List Bool). stands_of (at a.wk.now a.wt.now a.wn) && (all_fresh a.count a.awake.now (take a.wn a.wt.now) l && keys_ok a.present.0 (close - 1) a.wk.now a.wt.now a.wn)) (sym M.0) ∙ sym c.entries_ok-waits.ensures.is.0 ∙ not-false _ c.if-not-waits.false) }

@@ -13,13 +13,13 @@ unfolding runs_ok
 returns-then-not-run_ok c =
     record { is = let a = c.args in
     let k = c.loop-i in
-    sym (all_fails (λ j. run_ok a.present.0 a.seats.now (get_or a.tasks.now j 0) (get_or a.keys.now j 0)) a.n k.i c.loop-i-test.true (sym c.run_ok.ensures.is ∙ c.if-not-run_ok.true) }
+    sym (all_fails (λ j. run_ok a.present.0 a.seats.now (get_or a.tasks.now j 0) (get_or a.keys.now j 0)) a.n k.i c.loop-i-test.true (sym c.run_ok.ensures.is ∙ c.if-not-run_ok.true)) }
 
 pub loop-i-preserved : goal.loop-i-preserved
 loop-i-preserved c =
     let a = c.args in
     let k = c.loop-i in
-    all_more (λ j. run_ok a.present.0 a.seats.now (get_or a.tasks.now j 0) (get_or a.keys.now j 0)) k.i k.invariant (sym c.run_ok.ensures.is ∙ c.if-not-run_ok.false
+    all_more (λ j. run_ok a.present.0 a.seats.now (get_or a.tasks.now j 0) (get_or a.keys.now j 0)) k.i k.invariant (sym c.run_ok.ensures.is ∙ c.if-not-run_ok.false)
 
 pub returns : goal.returns
 unfolding runs_ok

@@ -14,13 +14,13 @@ unfolding slots_ok
 returns-then-not-slot_ok c =
     record { is = let a = c.args in
     let k = c.loop-p in
-    sym (all_fails (λ j. ltb j a.m || eqb (get_or a.slots.now j 0) 0) 16 k.p c.loop-p-test.true (sym c.slot_ok.ensures.is ∙ c.if-not-slot_ok.true) }
+    sym (all_fails (λ j. ltb j a.m || eqb (get_or a.slots.now j 0) 0) 16 k.p c.loop-p-test.true (sym c.slot_ok.ensures.is ∙ c.if-not-slot_ok.true)) }
 
 pub loop-p-preserved : goal.loop-p-preserved
 loop-p-preserved c =
     let a = c.args in
     let k = c.loop-p in
-    all_more (λ j. ltb j a.m || eqb (get_or a.slots.now j 0) 0) k.p k.invariant (sym c.slot_ok.ensures.is ∙ c.if-not-slot_ok.false
+    all_more (λ j. ltb j a.m || eqb (get_or a.slots.now j 0) 0) k.p k.invariant (sym c.slot_ok.ensures.is ∙ c.if-not-slot_ok.false)
 
 pub returns : goal.returns
 unfolding slots_ok
