@@ -5,20 +5,15 @@ use Rattle.refusals.proofs.check.Goals as goal
 
 pub returns : goal.returns
 returns c =
-    record { is = let waiting = c.before in
-    let running = waiting.before.before in
-    let last = running.before.before in
-    let arrived = last.before in
-    let awake = arrived.before in
     let size : Sized _ = record {
-      order = awake.before.measure16.ensures;
-      awake = awake.measure-flags.ensures;
-      arrived = arrived.measure-flags2.ensures;
-      last = last.measure64.ensures;
-      running_keys = running.before.measure642.ensures;
-      running_tasks = running.measure162.ensures;
-      waiting_keys = waiting.before.measure643.ensures;
-      waiting_tasks = waiting.measure163.ensures;
+      order = c.measure16.ensures.is;
+      awake = c.measure_flags.ensures.is;
+      arrived = c.measure_flags-2.ensures.is;
+      last = c.measure64.ensures.is;
+      running_keys = c.measure64-2.ensures.is;
+      running_tasks = c.measure16-2.ensures.is;
+      waiting_keys = c.measure64-3.ensures.is;
+      waiting_tasks = c.measure16-3.ensures.is;
       slots = c.measure_slots.ensures.is;
     } in
-    record { holds = c.holds_lent.ensures.is; whole = λ e. holds_whole _ size (sym c.holds_lent.ensures.is ∙ e) } }
+    record { is = record { holds = c.holds_lent.ensures.is; whole = λ e. holds_whole _ size (sym c.holds_lent.ensures.is ∙ e) } }

@@ -9,8 +9,8 @@ returns-then-len-lt-RECORD_SIZE c = record { is = moves_12 _ _ _ _ c.if-len-lt-R
 pub returns-then-horizon-gt-CLOCK : goal.returns-then-horizon-gt-CLOCK
 returns-then-horizon-gt-CLOCK c = record { is = moves_10 _ _ _ _ (omega (arith, c.if-len-lt-RECORD_SIZE.false)) c.if-horizon-gt-CLOCK.true }
 
--- mul_stop : tie.Need-overflow-mul-if3
--- mul_stop c = let e = c.before.before in record { fits = instant_small e.args.horizon e.args.scale (omega (arith, c.if2.false)) e.requires }
+pub overflow_mul-horizon : goal.overflow_mul-horizon
+overflow_mul-horizon c = let a = c.args in omega (arith, instant_small a.horizon a.scale (omega (arith, c.if-horizon-gt-CLOCK.false)) c.requires.small)
 
 pub returns-then-horizon-scale : goal.returns-then-horizon-scale
 returns-then-horizon-scale c = record { is = moves_11 _ _ _ _ (omega (arith, c.if-len-lt-RECORD_SIZE.false)) (omega (arith, c.if-horizon-gt-CLOCK.false)) c.if-horizon-scale.true }
