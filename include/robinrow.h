@@ -1,7 +1,7 @@
 /* Robinrow: a multiprocessor real-time scheduler (LRE-TL) over whole numbers, as a library for C (C99 or later) and C++.
  *
- * Link with librobinrow_c.a: `rt staticlib robinrow_c` leaves it for x86-64 in target/staticlib, `bench/native robinrow_c TARGET`
- * for another machine in target/native. The library keeps nothing between calls, allocates nothing, and needs memcpy and memset
+ * Link with librobinrow_c.a: `rt lib` in crates/robinrow_c leaves it for x86-64 in crates/robinrow_c/out, `bench/native robinrow_c
+ * TARGET` for any machine in target/native. The library keeps nothing between calls, allocates nothing, and needs memcpy and memset
  * only: all that it knows is in the struct that the caller owns, and it works on it where it stands.
  *
  *     robinrow_state s;                              6,752 bytes: best static

@@ -13,7 +13,7 @@ fn main() {
     let archive = match named {
         Some(path) => path,
         None if target == "x86_64" && !native.exists() => {
-            top.join("target/staticlib/librobinrow_c.a")
+            top.join("crates/robinrow_c/out/librobinrow_c.a")
         }
         None => native,
     };
