@@ -4,14 +4,13 @@ use mathlib.Core.Path.{◌≡◌, sym, ◌∙◌, ap}
 use mathlib.Core.Bool.{true}
 use mathlib.Core.Option.{none, some}
 use mathlib.Core.Logic.{◌≢◌}
-use Prim.Native.Nat.{ℕ, ◌*◌, ◌-◌, ◌≤◌, ◌<◌}
+use Prim.Native.Nat.{ℕ, ◌*◌, ◌≤◌, ◌<◌}
 use native.Mathlib.Omega.{arith}
 use borrow.Author.Tests.{eq-eqb, ne_eqb}
 use lib.Dec.{lit≤}
 use Rattle.table.specs.declared.Table.{Table}
 use Rattle.state.specs.declared.State.{State}
-use Rattle.rules.specs.State as Rules
-use Rattle.rules.specs.State.{at, on}
+use Rattle.rules.specs.State.{on}
 use Rattle.rules.proofs.Calls.{open_parts, next_is}
 use Rattle.rules.proofs.Keeping.{Running, running_stands}
 use Rattle.rules.proofs.Standing.{Facts, facts}

@@ -18,7 +18,6 @@ use Rattle.plane.specs.Rows.{rows}
 use Rattle.plane.proofs.Rows.{end_of_rows}
 use Rattle.state.specs.Work.{Work, enter_all}
 use Rattle.rules.specs.Planes.{end_of, open_tasks, opened}
-use Rattle.rules.specs.Scale.{fits}
 use Rattle.rules.specs.State.{Task, at, short, is_awake, last_of}
 use Rattle.rules.proofs.Together.{Together}
 use Rattle.rules.proofs.Calls.{shut_parts}
@@ -27,7 +26,6 @@ use Rattle.rules.proofs.Standing.{Facts, facts}
 use Rattle.state.specs.Fit.{Opens}
 use Rattle.state.specs.Machine.{with_work, opens_to, tick_at, work_of, plane_end, begun, opened_of}
 use Rattle.state.specs.View.{tasks_at, plane_of, view}
-use Rattle.state.specs.Work.{size}
 use Rattle.state.proofs.Opening.{end_same}
 use Rattle.state.proofs.Step.{opened_view}
 use Rattle.state.proofs.Views.{sound_is}

@@ -15,7 +15,6 @@ use native.Mathlib.Nat.{le_of_mul-le-mul_right}
 use native.Mathlib.Omega.{arith}
 use Rattle.rules.specs.declared.Answer.TheVariants.{NotTogether}
 use Rattle.rules.specs.Answers.{is_done}
-use Rattle.rules.specs.Bounds.{clock}
 use Rattle.rules.specs.Reasons.{ArriveReason}
 use Rattle.rules.proofs.Jobs.{done_comes, done_is}
 use Rattle.rules.proofs.Refusing.{arrive_answers}

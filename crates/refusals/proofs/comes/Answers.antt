@@ -11,23 +11,31 @@ returns-then-count-task c = record { is = let a = c.args in comes_7 a.terms.coun
 
 pub returns-then-present-terms-ne0 : goal.returns-then-present-terms-ne0
 returns-then-present-terms-ne0 c =
-    record { is = let a = c.args in
-    comes_8 a.terms.count a.terms.scale a.present.0 a.period.now a.arrived.now a.last.now a.task (omega (arith, c.if-task-lt1.false)) (omega (arith, c.if-count-task.false)) c.if-present-terms-ne0.true }
+    record {
+      is = let a = c.args in
+          comes_8 a.terms.count a.terms.scale a.present.0 a.period.now a.arrived.now a.last.now a.task (omega (arith, c.if-task-lt1.false)) (omega (arith, c.if-count-task.false)) c.if-present-terms-ne0.true;
+    }
 
 pub too_soon-requires : goal.too_soon-requires
 too_soon-requires c = record { dated = c.requires.dated.dates _ (omega (arith, c.if-task-lt1.false, c.if-count-task.false)) c.if-arrived-i.true }
 
 pub returns-then-too_soon : goal.returns-then-too_soon
 returns-then-too_soon c =
-    record { is = let a = c.args in
-    comes_9 a.terms.count a.terms.scale a.present.0 a.period.now a.arrived.now a.last.now a.task (omega (arith, c.if-task-lt1.false)) (omega (arith, c.if-count-task.false)) c.if-present-terms-ne0.false c.if-arrived-i.true (sym c.too_soon.ensures.is ∙ c.if-too_soon.true) }
+    record {
+      is = let a = c.args in
+          comes_9 a.terms.count a.terms.scale a.present.0 a.period.now a.arrived.now a.last.now a.task (omega (arith, c.if-task-lt1.false)) (omega (arith, c.if-count-task.false)) c.if-present-terms-ne0.false c.if-arrived-i.true (sym c.too_soon.ensures.is ∙ c.if-too_soon.true);
+    }
 
 pub returns-else-too_soon : goal.returns-else-too_soon
 returns-else-too_soon c =
-    record { is = let a = c.args in
-    comes_late a.terms.count a.terms.scale a.present.0 a.period.now a.arrived.now a.last.now a.task (omega (arith, c.if-task-lt1.false)) (omega (arith, c.if-count-task.false)) c.if-present-terms-ne0.false c.if-arrived-i.true (sym c.too_soon.ensures.is ∙ c.if-too_soon.false) }
+    record {
+      is = let a = c.args in
+          comes_late a.terms.count a.terms.scale a.present.0 a.period.now a.arrived.now a.last.now a.task (omega (arith, c.if-task-lt1.false)) (omega (arith, c.if-count-task.false)) c.if-present-terms-ne0.false c.if-arrived-i.true (sym c.too_soon.ensures.is ∙ c.if-too_soon.false);
+    }
 
 pub returns-else-arrived-i : goal.returns-else-arrived-i
 returns-else-arrived-i c =
-    record { is = let a = c.args in
-    comes_first a.terms.count a.terms.scale a.present.0 a.period.now a.arrived.now a.last.now a.task (omega (arith, c.if-task-lt1.false)) (omega (arith, c.if-count-task.false)) c.if-present-terms-ne0.false c.if-arrived-i.false }
+    record {
+      is = let a = c.args in
+          comes_first a.terms.count a.terms.scale a.present.0 a.period.now a.arrived.now a.last.now a.task (omega (arith, c.if-task-lt1.false)) (omega (arith, c.if-count-task.false)) c.if-present-terms-ne0.false c.if-arrived-i.false;
+    }

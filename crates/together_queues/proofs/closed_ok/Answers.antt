@@ -18,22 +18,26 @@ returns-then-rn-ne0 c = record { is = let a = c.args in λ end awake wk wt. sym 
 
 pub returns-then-wn-ne0 : goal.returns-then-wn-ne0
 returns-then-wn-ne0 c =
-    record { is = let a = c.args in
-    λ end awake wk wt. sym (second_fails (sound_by a.count a.m a.present.0 end awake (at a.rk.now a.rt.now a.rn) (at wk wt a.wn) a.slots.now) _ (and_next (eqb (a.present.0 % a.scale) 0) _ (eq-eqb _ _ c.if-present-scale-ne0.false) ∙ and_next (eqb a.rn 0) _ (eq-eqb _ _ c.if-rn-ne0.false) ∙ ne_eqb _ _ c.if-wn-ne0.true)) }
+    record {
+      is = let a = c.args in
+          λ end awake wk wt. sym (second_fails (sound_by a.count a.m a.present.0 end awake (at a.rk.now a.rt.now a.rn) (at wk wt a.wn) a.slots.now) _ (and_next (eqb (a.present.0 % a.scale) 0) _ (eq-eqb _ _ c.if-present-scale-ne0.false) ∙ and_next (eqb a.rn 0) _ (eq-eqb _ _ c.if-rn-ne0.false) ∙ ne_eqb _ _ c.if-wn-ne0.true));
+    }
 
 pub seats_ok-requires : goal.seats_ok-requires
 seats_ok-requires c = record { inside = let p = c.requires.small in (p.0, (let z = c.if-rn-ne0.false in omega arith)) }
 
 pub returns : goal.returns
 returns c =
-    record { is = let a = c.args in
-    let p = c.requires.small in
-    let r = c.if-rn-ne0.false in
-    let w = c.if-wn-ne0.false in
-    λ end awake wk wt.
-    c.seats_ok.ensures.is
-    ∙ ap (λ (x : ℕ). slots_ok a.m a.slots.now && (all_fresh a.count no_marks a.slots.now no_marks && runs_ok a.present.0 (all_marked a.slots.now no_marks) a.rk.now a.rt.now x)) r
-    ∙ sym (closed_sound a.count a.m a.present.0 end awake a.rk.now a.rt.now wk wt a.slots.now p.0 p.1)
-    ∙ ap (λ (x : ℕ). sound_by a.count a.m a.present.0 end awake (at a.rk.now a.rt.now x) (at wk wt 0) a.slots.now) (sym r)
-    ∙ ap (λ (x : ℕ). sound_by a.count a.m a.present.0 end awake (at a.rk.now a.rt.now a.rn) (at wk wt x) a.slots.now) (sym w)
-    ∙ sym (second_holds (sound_by a.count a.m a.present.0 end awake (at a.rk.now a.rt.now a.rn) (at wk wt a.wn) a.slots.now) _ (and_next (eqb (a.present.0 % a.scale) 0) _ (eq-eqb _ _ c.if-present-scale-ne0.false) ∙ and_next (eqb a.rn 0) _ (eq-eqb _ _ r) ∙ eq-eqb _ _ w)) }
+    record {
+      is = let a = c.args in
+          let p = c.requires.small in
+          let r = c.if-rn-ne0.false in
+          let w = c.if-wn-ne0.false in
+          λ end awake wk wt.
+          c.seats_ok.ensures.is
+          ∙ ap (λ (x : ℕ). slots_ok a.m a.slots.now && (all_fresh a.count no_marks a.slots.now no_marks && runs_ok a.present.0 (all_marked a.slots.now no_marks) a.rk.now a.rt.now x)) r
+          ∙ sym (closed_sound a.count a.m a.present.0 end awake a.rk.now a.rt.now wk wt a.slots.now p.0 p.1)
+          ∙ ap (λ (x : ℕ). sound_by a.count a.m a.present.0 end awake (at a.rk.now a.rt.now x) (at wk wt 0) a.slots.now) (sym r)
+          ∙ ap (λ (x : ℕ). sound_by a.count a.m a.present.0 end awake (at a.rk.now a.rt.now a.rn) (at wk wt x) a.slots.now) (sym w)
+          ∙ sym (second_holds (sound_by a.count a.m a.present.0 end awake (at a.rk.now a.rt.now a.rn) (at wk wt a.wn) a.slots.now) _ (and_next (eqb (a.present.0 % a.scale) 0) _ (eq-eqb _ _ c.if-present-scale-ne0.false) ∙ and_next (eqb a.rn 0) _ (eq-eqb _ _ r) ∙ eq-eqb _ _ w));
+    }

@@ -17,35 +17,43 @@ loop-i-init c = let a = c.args in walked_from a.present.0 a.top a.n a.count a.ok
 
 pub returns-then-not-key_ok : goal.returns-then-not-key_ok
 returns-then-not-key_ok c =
-    record { is = let a = c.args in
-    let p = c.requires.inside in
-    let z = c.measure.ensures.is in
-    let k = c.loop-i in
-    (sym (key_fails a.present.0 a.top a.n a.count a.ok.now a.keys.now a.tasks.now a.marks.now k.i c.loop-i-test.true (ap (λ (x : ℕ). key_ok a.present.0 a.top x (get_or a.keys.now k.i 0)) (sym c.place-t.ensures.is) ∙ sym c.key_ok.ensures.is ∙ c.if-not-key_ok.true)), λ f. clash false refl f) }
+    record {
+      is = let a = c.args in
+          let p = c.requires.inside in
+          let z = c.measure.ensures.is in
+          let k = c.loop-i in
+          (sym (key_fails a.present.0 a.top a.n a.count a.ok.now a.keys.now a.tasks.now a.marks.now k.i c.loop-i-test.true (ap (λ (x : ℕ). key_ok a.present.0 a.top x (get_or a.keys.now k.i 0)) (sym c.place-t.ensures.is) ∙ sym c.key_ok.ensures.is ∙ c.if-not-key_ok.true)), λ f. clash false refl f);
+    }
 
 pub returns-then-not-is_fresh : goal.returns-then-not-is_fresh
 returns-then-not-is_fresh c =
-    record { is = let a = c.args in
-    let p = c.requires.inside in
-    let z = c.measure.ensures.is in
-    let k = c.loop-i in
-    (sym (fresh_fails a.present.0 a.top a.n a.count a.ok.now a.keys.now a.tasks.now a.marks.now k.invariant (omega arith) c.loop-i-test.true (ap (fresh a.count a.ok.now k.marks) (sym c.place-t.ensures.is) ∙ sym c.is_fresh.ensures.is ∙ c.if-not-is_fresh.true)), λ f. clash false refl f) }
+    record {
+      is = let a = c.args in
+          let p = c.requires.inside in
+          let z = c.measure.ensures.is in
+          let k = c.loop-i in
+          (sym (fresh_fails a.present.0 a.top a.n a.count a.ok.now a.keys.now a.tasks.now a.marks.now k.invariant (omega arith) c.loop-i-test.true (ap (fresh a.count a.ok.now k.marks) (sym c.place-t.ensures.is) ∙ sym c.is_fresh.ensures.is ∙ c.if-not-is_fresh.true)), λ f. clash false refl f);
+    }
 
 pub returns-then-not-in_turn : goal.returns-then-not-in_turn
 returns-then-not-in_turn c =
-    record { is = let a = c.args in
-    let p = c.requires.inside in
-    let z = c.measure.ensures.is in
-    let k = c.loop-i in
-    (sym (turn_fails a.present.0 a.top a.n a.count a.ok.now a.keys.now a.tasks.now a.marks.now k.i z p.0 c.loop-i-test.true (sym c.in_turn.ensures.is ∙ c.if-not-in_turn.true)), λ f. clash false refl f) }
+    record {
+      is = let a = c.args in
+          let p = c.requires.inside in
+          let z = c.measure.ensures.is in
+          let k = c.loop-i in
+          (sym (turn_fails a.present.0 a.top a.n a.count a.ok.now a.keys.now a.tasks.now a.marks.now k.i z p.0 c.loop-i-test.true (sym c.in_turn.ensures.is ∙ c.if-not-in_turn.true)), λ f. clash false refl f);
+    }
 
 pub note-requires : goal.note-requires
 note-requires c =
-    record { inside = let a = c.args in
-    let p = c.requires.inside in
-    let z = c.measure.ensures.is in
-    let k = c.loop-i in
-    fresh_low a.count a.ok.now k.marks c.place-t.result p.1 (sym c.is_fresh.ensures.is ∙ c.if-not-is_fresh.false) }
+    record {
+      inside = let a = c.args in
+          let p = c.requires.inside in
+          let z = c.measure.ensures.is in
+          let k = c.loop-i in
+          fresh_low a.count a.ok.now k.marks c.place-t.result p.1 (sym c.is_fresh.ensures.is ∙ c.if-not-is_fresh.false);
+    }
 
 pub loop-i-preserved : goal.loop-i-preserved
 loop-i-preserved c =
@@ -79,8 +87,10 @@ overflow_add-sum c =
 
 pub returns : goal.returns
 returns c =
-    record { is = let a = c.args in
-    let k = c.loop-i in
-    let z = c.measure.ensures.is in
-    let e = walked_end a.present.0 a.top a.n a.count a.ok.now a.keys.now a.tasks.now a.marks.now k.invariant (let p = c.requires.inside in omega arith) z c.requires.inside.0 c.loop-i-test.false in
-    (sym e.0, λ _. (e.1, e.2)) }
+    record {
+      is = let a = c.args in
+          let k = c.loop-i in
+          let z = c.measure.ensures.is in
+          let e = walked_end a.present.0 a.top a.n a.count a.ok.now a.keys.now a.tasks.now a.marks.now k.invariant (let p = c.requires.inside in omega arith) z c.requires.inside.0 c.loop-i-test.false in
+          (sym e.0, λ _. (e.1, e.2));
+    }

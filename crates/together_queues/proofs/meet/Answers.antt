@@ -9,16 +9,20 @@ loop-i-init c = let a = c.args in meets_from a.n a.count a.ok.now a.tasks.now a.
 
 pub returns-then-not-is_fresh : goal.returns-then-not-is_fresh
 returns-then-not-is_fresh c =
-    record { is = let a = c.args in
-    let k = c.loop-i in
-    let f = ap (fresh a.count a.ok.now k.marks) (sym c.place-t.ensures.is) ∙ sym c.is_fresh.ensures.is ∙ c.if-not-is_fresh.true in
-    (sym (meets_fails k.invariant c.requires.inside.0 c.loop-i-test.true f), λ e. absurd (false≢true e)) }
+    record {
+      is = let a = c.args in
+          let k = c.loop-i in
+          let f = ap (fresh a.count a.ok.now k.marks) (sym c.place-t.ensures.is) ∙ sym c.is_fresh.ensures.is ∙ c.if-not-is_fresh.true in
+          (sym (meets_fails k.invariant c.requires.inside.0 c.loop-i-test.true f), λ e. absurd (false≢true e));
+    }
 
 pub note-requires : goal.note-requires
 note-requires c =
-    record { inside = let a = c.args in
-    let k = c.loop-i in
-    fresh_low a.count a.ok.now k.marks c.place-t.result c.requires.inside.1 (sym c.is_fresh.ensures.is ∙ c.if-not-is_fresh.false) }
+    record {
+      inside = let a = c.args in
+          let k = c.loop-i in
+          fresh_low a.count a.ok.now k.marks c.place-t.result c.requires.inside.1 (sym c.is_fresh.ensures.is ∙ c.if-not-is_fresh.false);
+    }
 
 pub loop-i-preserved : goal.loop-i-preserved
 loop-i-preserved c =
@@ -29,6 +33,8 @@ loop-i-preserved c =
 
 pub returns : goal.returns
 returns c =
-    record { is = let k = c.loop-i in
-    let e = meets_end k.invariant c.requires.inside.0 c.loop-i-test.false in
-    (e.0, λ _. e.1) }
+    record {
+      is = let k = c.loop-i in
+          let e = meets_end k.invariant c.requires.inside.0 c.loop-i-test.false in
+          (e.0, λ _. e.1);
+    }

@@ -22,67 +22,85 @@ overflow_mul-close c = let a = c.args in let p = c.requires.small in omega (arit
 
 pub returns-then-close-present : goal.returns-then-close-present
 returns-then-close-present c =
-    record { is = let a = c.args in
-    let close = a.end * a.scale in
-    sym (open_fails a.shares a.count a.m a.scale a.present.0 close a.awake.now a.rk.now a.rt.now a.rn a.wk.now a.wt.now a.wn a.slots.now _ (λ O. O.later) (le-ltb a.present.0 close c.if-close-present.true)) }
+    record {
+      is = let a = c.args in
+          let close = a.end * a.scale in
+          sym (open_fails a.shares a.count a.m a.scale a.present.0 close a.awake.now a.rk.now a.rt.now a.rn a.wk.now a.wt.now a.wn a.slots.now _ (λ O. O.later) (le-ltb a.present.0 close c.if-close-present.true));
+    }
 
 pub returns-then-rn-gt128 : goal.returns-then-rn-gt128
 returns-then-rn-gt128 c =
-    record { is = let a = c.args in
-    let close = a.end * a.scale in
-    sym (open_fails a.shares a.count a.m a.scale a.present.0 close a.awake.now a.rk.now a.rt.now a.rn a.wk.now a.wt.now a.wn a.slots.now _ (λ O. O.few.0) (lt-leb a.rn 128 c.if-rn-gt128.true)) }
+    record {
+      is = let a = c.args in
+          let close = a.end * a.scale in
+          sym (open_fails a.shares a.count a.m a.scale a.present.0 close a.awake.now a.rk.now a.rt.now a.rn a.wk.now a.wt.now a.wn a.slots.now _ (λ O. O.few.0) (lt-leb a.rn 128 c.if-rn-gt128.true));
+    }
 
 pub returns-then-wn-gt128 : goal.returns-then-wn-gt128
 returns-then-wn-gt128 c =
-    record { is = let a = c.args in
-    let close = a.end * a.scale in
-    sym (open_fails a.shares a.count a.m a.scale a.present.0 close a.awake.now a.rk.now a.rt.now a.rn a.wk.now a.wt.now a.wn a.slots.now _ (λ O. O.few.1) (lt-leb a.wn 128 c.if-wn-gt128.true)) }
+    record {
+      is = let a = c.args in
+          let close = a.end * a.scale in
+          sym (open_fails a.shares a.count a.m a.scale a.present.0 close a.awake.now a.rk.now a.rt.now a.rn a.wk.now a.wt.now a.wn a.slots.now _ (λ O. O.few.1) (lt-leb a.wn 128 c.if-wn-gt128.true));
+    }
 
 pub returns-then-not-idle_ok : goal.returns-then-not-idle_ok
 returns-then-not-idle_ok c =
-    record { is = let a = c.args in
-    let close = a.end * a.scale in
-    sym (open_fails a.shares a.count a.m a.scale a.present.0 close a.awake.now a.rk.now a.rt.now a.rn a.wk.now a.wt.now a.wn a.slots.now _ (λ O. O.idle) (sym c.idle_ok.ensures.is ∙ c.if-not-idle_ok.true)) }
+    record {
+      is = let a = c.args in
+          let close = a.end * a.scale in
+          sym (open_fails a.shares a.count a.m a.scale a.present.0 close a.awake.now a.rk.now a.rt.now a.rn a.wk.now a.wt.now a.wn a.slots.now _ (λ O. O.idle) (sym c.idle_ok.ensures.is ∙ c.if-not-idle_ok.true));
+    }
 
 pub entries_ok-runs-requires : goal.entries_ok-runs-requires
 entries_ok-runs-requires c =
-    record { inside = let a = c.args in
-    let close = a.end * a.scale in
-    let left = left_small a.scale a.present.0 close c.requires.small.scale_in.1 c.requires.small.near in
-    (c.if-rn-gt128.false, c.requires.small.rows, left) }
+    record {
+      inside = let a = c.args in
+          let close = a.end * a.scale in
+          let left = left_small a.scale a.present.0 close c.requires.small.scale_in.1 c.requires.small.near in
+          (c.if-rn-gt128.false, c.requires.small.rows, left);
+    }
 
 pub returns-then-not-runs : goal.returns-then-not-runs
 returns-then-not-runs c =
-    record { is = let a = c.args in
-    let close = a.end * a.scale in
-    sym (open_fails a.shares a.count a.m a.scale a.present.0 close a.awake.now a.rk.now a.rt.now a.rn a.wk.now a.wt.now a.wn a.slots.now _ (λ O. O.runs) (sym c.entries_ok-runs.ensures.is.0 ∙ not-true _ c.if-not-runs.true)) }
+    record {
+      is = let a = c.args in
+          let close = a.end * a.scale in
+          sym (open_fails a.shares a.count a.m a.scale a.present.0 close a.awake.now a.rk.now a.rt.now a.rn a.wk.now a.wt.now a.wn a.slots.now _ (λ O. O.runs) (sym c.entries_ok-runs.ensures.is.0 ∙ not-true _ c.if-not-runs.true));
+    }
 
 pub seats_ok-requires : goal.seats_ok-requires
 seats_ok-requires c = record { inside = (c.requires.small.rows, c.if-rn-gt128.false) }
 
 pub returns-then-not-seats_ok : goal.returns-then-not-seats_ok
 returns-then-not-seats_ok c =
-    record { is = let a = c.args in
-    let close = a.end * a.scale in
-    let M = c.entries_ok-runs.ensures.is.1 (not-false _ c.if-not-runs.false) in
-    sym (open_fails a.shares a.count a.m a.scale a.present.0 close a.awake.now a.rk.now a.rt.now a.rn a.wk.now a.wt.now a.wn a.slots.now _ (λ O. O.seats) (ap (λ (l : List Bool). slots_ok a.m a.slots.now && (all_fresh a.count l a.slots.now no_marks && runs_ok a.present.0 (all_marked a.slots.now no_marks) a.rk.now a.rt.now a.rn)) (sym M.0) ∙ sym c.seats_ok.ensures.is ∙ c.if-not-seats_ok.true)) }
+    record {
+      is = let a = c.args in
+          let close = a.end * a.scale in
+          let M = c.entries_ok-runs.ensures.is.1 (not-false _ c.if-not-runs.false) in
+          sym (open_fails a.shares a.count a.m a.scale a.present.0 close a.awake.now a.rk.now a.rt.now a.rn a.wk.now a.wt.now a.wn a.slots.now _ (λ O. O.seats) (ap (λ (l : List Bool). slots_ok a.m a.slots.now && (all_fresh a.count l a.slots.now no_marks && runs_ok a.present.0 (all_marked a.slots.now no_marks) a.rk.now a.rt.now a.rn)) (sym M.0) ∙ sym c.seats_ok.ensures.is ∙ c.if-not-seats_ok.true));
+    }
 
 pub overflow_sub-close : goal.overflow_sub-close
 overflow_sub-close c = let h = c.if-close-present.false in omega arith
 
 pub entries_ok-waits-requires : goal.entries_ok-waits-requires
 entries_ok-waits-requires c =
-    record { inside = let a = c.args in
-    let close = a.end * a.scale in
-    let left = left_small a.scale a.present.0 close c.requires.small.scale_in.1 c.requires.small.near in
-    (c.if-wn-gt128.false, c.requires.small.rows, omega (arith, left)) }
+    record {
+      inside = let a = c.args in
+          let close = a.end * a.scale in
+          let left = left_small a.scale a.present.0 close c.requires.small.scale_in.1 c.requires.small.near in
+          (c.if-wn-gt128.false, c.requires.small.rows, omega (arith, left));
+    }
 
 pub returns-then-not-waits : goal.returns-then-not-waits
 returns-then-not-waits c =
-    record { is = let a = c.args in
-    let close = a.end * a.scale in
-    let M = c.entries_ok-runs.ensures.is.1 (not-false _ c.if-not-runs.false) in
-    sym (open_fails a.shares a.count a.m a.scale a.present.0 close a.awake.now a.rk.now a.rt.now a.rn a.wk.now a.wt.now a.wn a.slots.now _ (λ O. O.waits) (ap (λ (l : List Bool). stands_of (at a.wk.now a.wt.now a.wn) && (all_fresh a.count a.awake.now (take a.wn a.wt.now) l && keys_ok a.present.0 (close - 1) a.wk.now a.wt.now a.wn)) (sym M.0) ∙ sym c.entries_ok-waits.ensures.is.0 ∙ not-true _ c.if-not-waits.true)) }
+    record {
+      is = let a = c.args in
+          let close = a.end * a.scale in
+          let M = c.entries_ok-runs.ensures.is.1 (not-false _ c.if-not-runs.false) in
+          sym (open_fails a.shares a.count a.m a.scale a.present.0 close a.awake.now a.rk.now a.rt.now a.rn a.wk.now a.wt.now a.wn a.slots.now _ (λ O. O.waits) (ap (λ (l : List Bool). stands_of (at a.wk.now a.wt.now a.wn) && (all_fresh a.count a.awake.now (take a.wn a.wt.now) l && keys_ok a.present.0 (close - 1) a.wk.now a.wt.now a.wn)) (sym M.0) ∙ sym c.entries_ok-waits.ensures.is.0 ∙ not-true _ c.if-not-waits.true));
+    }
 
 pub between-left-requires : goal.between-left-requires
 between-left-requires c = record { ordered = let h = c.if-close-present.false in omega arith }
@@ -123,30 +141,34 @@ overflow_add-work c =
 
 pub sum_ok-requires : goal.sum_ok-requires
 sum_ok-requires c =
-    record { small = let p = c.requires.small in
-    let b = ap (λ (z : Amount). z.0) c.between-left.ensures.is in
-    (p.scale_in.0, p.scale_in.1, omega (arith, p.near), p.sum) }
+    record {
+      small = let p = c.requires.small in
+          let b = ap (λ (z : Amount). z.0) c.between-left.ensures.is in
+          (p.scale_in.0, p.scale_in.1, omega (arith, p.near), p.sum);
+    }
 
 pub returns : goal.returns
 returns c =
-    record { is = let a = c.args in
-    let close = a.end * a.scale in
-    let M = c.entries_ok-runs.ensures.is.1 (not-false _ c.if-not-runs.false) in
-    let l = c.if-close-present.false in
-    let wt = and_both (stands_of (at a.wk.now a.wt.now a.wn)) _ (ap (λ (l : List Bool). stands_of (at a.wk.now a.wt.now a.wn) && (all_fresh a.count a.awake.now (take a.wn a.wt.now) l && keys_ok a.present.0 (close - 1) a.wk.now a.wt.now a.wn)) (sym M.0) ∙ sym c.entries_ok-waits.ensures.is.0 ∙ not-false _ c.if-not-waits.false) in
-    let wk = (and_both (all_fresh a.count a.awake.now (take a.wn a.wt.now) (all_marked (take a.rn a.rt.now) no_marks)) _ wt.1).1 in
-    let flip = sums_flip a.present.0 close a.wk.now a.wn (λ i h. let k = key_in a.present.0 (close - 1) a.wk.now a.wt.now a.wn i wk h in (omega arith, omega arith)) in
-    let ws = (c.entries_ok-waits.ensures.is.1 (not-false _ c.if-not-waits.false)).1 in
-    let left = close - a.present.0 in
-    let runs = c.entries_ok-runs in
-    let waits = c.entries_ok-waits in
-    let e : runs.result.sum + (a.wn * left - waits.result.sum) ≡ run_sum a.present.0 a.rk.now a.rn + wait_sum close a.wk.now a.wn = omega (arith, M.1, ws, flip) in
-    c.sum_ok.ensures.is
-    ∙ ap (λ (l : ℕ). sum_ok a.scale l (runs.result.sum + (a.wn * l - waits.result.sum)) a.shares) (ap (λ (z : Amount). z.0) c.between-left.ensures.is)
-    ∙ ap (λ (x : ℕ). sum_ok a.scale left x a.shares) e
-    ∙ open_last a.shares a.count a.m a.scale a.present.0 close a.awake.now a.rk.now a.rt.now a.rn a.wk.now a.wt.now a.wn a.slots.now
-    c.requires.small.rows c.requires.small.processors (lt-ltb a.present.0 close l) (le-leb a.rn 128 c.if-rn-gt128.false, le-leb a.wn 128 c.if-wn-gt128.false)
-    (sym c.idle_ok.ensures.is ∙ c.if-not-idle_ok.false) (sym c.entries_ok-runs.ensures.is.0 ∙ not-false _ c.if-not-runs.false)
-    (ap (λ (l : List Bool). slots_ok a.m a.slots.now && (all_fresh a.count l a.slots.now no_marks && runs_ok a.present.0 (all_marked a.slots.now no_marks) a.rk.now a.rt.now a.rn)) (sym M.0)
-    ∙ sym c.seats_ok.ensures.is ∙ c.if-not-seats_ok.false)
-    (ap (λ (l : List Bool). stands_of (at a.wk.now a.wt.now a.wn) && (all_fresh a.count a.awake.now (take a.wn a.wt.now) l && keys_ok a.present.0 (close - 1) a.wk.now a.wt.now a.wn)) (sym M.0) ∙ sym c.entries_ok-waits.ensures.is.0 ∙ not-false _ c.if-not-waits.false) }
+    record {
+      is = let a = c.args in
+          let close = a.end * a.scale in
+          let M = c.entries_ok-runs.ensures.is.1 (not-false _ c.if-not-runs.false) in
+          let l = c.if-close-present.false in
+          let wt = and_both (stands_of (at a.wk.now a.wt.now a.wn)) _ (ap (λ (l : List Bool). stands_of (at a.wk.now a.wt.now a.wn) && (all_fresh a.count a.awake.now (take a.wn a.wt.now) l && keys_ok a.present.0 (close - 1) a.wk.now a.wt.now a.wn)) (sym M.0) ∙ sym c.entries_ok-waits.ensures.is.0 ∙ not-false _ c.if-not-waits.false) in
+          let wk = (and_both (all_fresh a.count a.awake.now (take a.wn a.wt.now) (all_marked (take a.rn a.rt.now) no_marks)) _ wt.1).1 in
+          let flip = sums_flip a.present.0 close a.wk.now a.wn (λ i h. let k = key_in a.present.0 (close - 1) a.wk.now a.wt.now a.wn i wk h in (omega arith, omega arith)) in
+          let ws = (c.entries_ok-waits.ensures.is.1 (not-false _ c.if-not-waits.false)).1 in
+          let left = close - a.present.0 in
+          let runs = c.entries_ok-runs in
+          let waits = c.entries_ok-waits in
+          let e : runs.result.sum + (a.wn * left - waits.result.sum) ≡ run_sum a.present.0 a.rk.now a.rn + wait_sum close a.wk.now a.wn = omega (arith, M.1, ws, flip) in
+          c.sum_ok.ensures.is
+          ∙ ap (λ (l : ℕ). sum_ok a.scale l (runs.result.sum + (a.wn * l - waits.result.sum)) a.shares) (ap (λ (z : Amount). z.0) c.between-left.ensures.is)
+          ∙ ap (λ (x : ℕ). sum_ok a.scale left x a.shares) e
+          ∙ open_last a.shares a.count a.m a.scale a.present.0 close a.awake.now a.rk.now a.rt.now a.rn a.wk.now a.wt.now a.wn a.slots.now
+          c.requires.small.rows c.requires.small.processors (lt-ltb a.present.0 close l) (le-leb a.rn 128 c.if-rn-gt128.false, le-leb a.wn 128 c.if-wn-gt128.false)
+          (sym c.idle_ok.ensures.is ∙ c.if-not-idle_ok.false) (sym c.entries_ok-runs.ensures.is.0 ∙ not-false _ c.if-not-runs.false)
+          (ap (λ (l : List Bool). slots_ok a.m a.slots.now && (all_fresh a.count l a.slots.now no_marks && runs_ok a.present.0 (all_marked a.slots.now no_marks) a.rk.now a.rt.now a.rn)) (sym M.0)
+          ∙ sym c.seats_ok.ensures.is ∙ c.if-not-seats_ok.false)
+          (ap (λ (l : List Bool). stands_of (at a.wk.now a.wt.now a.wn) && (all_fresh a.count a.awake.now (take a.wn a.wt.now) l && keys_ok a.present.0 (close - 1) a.wk.now a.wt.now a.wn)) (sym M.0) ∙ sym c.entries_ok-waits.ensures.is.0 ∙ not-false _ c.if-not-waits.false);
+    }

@@ -1,5 +1,5 @@
 use mathlib.Core.Path.{sym, ◌∙◌}
-use mathlib.Core.Bool.{true, ◌||◌}
+use mathlib.Core.Bool.{◌||◌}
 use lib.ListN.{get_or}
 use Rattle.state.specs.Sound.{slots_ok}
 use lib.Dec.{ltb, eqb}
@@ -12,9 +12,11 @@ loop-p-init c = let a = c.args in all_none (λ j. ltb j a.m || eqb (get_or a.slo
 pub returns-then-not-slot_ok : goal.returns-then-not-slot_ok
 unfolding slots_ok
 returns-then-not-slot_ok c =
-    record { is = let a = c.args in
-    let k = c.loop-p in
-    sym (all_fails (λ j. ltb j a.m || eqb (get_or a.slots.now j 0) 0) 16 k.p c.loop-p-test.true (sym c.slot_ok.ensures.is ∙ c.if-not-slot_ok.true)) }
+    record {
+      is = let a = c.args in
+          let k = c.loop-p in
+          sym (all_fails (λ j. ltb j a.m || eqb (get_or a.slots.now j 0) 0) 16 k.p c.loop-p-test.true (sym c.slot_ok.ensures.is ∙ c.if-not-slot_ok.true));
+    }
 
 pub loop-p-preserved : goal.loop-p-preserved
 loop-p-preserved c =
@@ -25,6 +27,8 @@ loop-p-preserved c =
 pub returns : goal.returns
 unfolding slots_ok
 returns c =
-    record { is = let a = c.args in
-    let k = c.loop-p in
-    sym (all_whole (λ j. ltb j a.m || eqb (get_or a.slots.now j 0) 0) 16 k.p c.loop-p-test.false k.invariant) }
+    record {
+      is = let a = c.args in
+          let k = c.loop-p in
+          sym (all_whole (λ j. ltb j a.m || eqb (get_or a.slots.now j 0) 0) 16 k.p c.loop-p-test.false k.invariant);
+    }
