@@ -1,5 +1,4 @@
 use native.Mathlib.Omega.{arith}
-use Rattle.moves.proofs.Opening.{instant_small}
 use Rattle.refusals.proofs.Moves.{moves_12, moves_10, moves_11, moves_0}
 use Rattle.refusals.proofs.may_move.Goals as goal
 
@@ -8,9 +7,6 @@ returns-then-len-lt-RECORD_SIZE c = record { is = moves_12 _ _ _ _ c.if-len-lt-R
 
 pub returns-then-horizon-gt-CLOCK : goal.returns-then-horizon-gt-CLOCK
 returns-then-horizon-gt-CLOCK c = record { is = moves_10 _ _ _ _ (omega (arith, c.if-len-lt-RECORD_SIZE.false)) c.if-horizon-gt-CLOCK.true }
-
-pub overflow_mul-horizon : goal.overflow_mul-horizon
-overflow_mul-horizon c = let a = c.args in omega (arith, instant_small a.horizon a.scale (omega (arith, c.if-horizon-gt-CLOCK.false)) c.requires.small)
 
 pub returns-then-horizon-scale : goal.returns-then-horizon-scale
 returns-then-horizon-scale c = record { is = moves_11 _ _ _ _ (omega (arith, c.if-len-lt-RECORD_SIZE.false)) (omega (arith, c.if-horizon-gt-CLOCK.false)) c.if-horizon-scale.true }

@@ -9,7 +9,6 @@ use Rattle.together_rows.proofs.Folds.{clash}
 use Rattle.together_queues.specs.Amounts.{longest}
 use Rattle.together_queues.specs.Entries.{key_ok}
 use Rattle.together_queues.proofs.Entries.{walked_from, key_fails, turn_fails, fresh_fails, sum_small, walked_on, walked_end}
-use Rattle.together_queues.proofs.Meeting.{fresh_low}
 use Rattle.together_queues.proofs.entries_ok.Goals as goal
 
 pub loop-i-init : goal.loop-i-init
@@ -44,6 +43,7 @@ returns-then-not-in_turn c =
           let k = c.loop-i in
           (sym (turn_fails a.present.0 a.top a.n a.count a.ok.now a.keys.now a.tasks.now a.marks.now k.i z p.0 c.loop-i-test.true (sym c.in_turn.ensures.is ∙ c.if-not-in_turn.true)), λ f. clash false refl f);
     }
+<<<<<<< HEAD
 
 pub note-requires : goal.note-requires
 note-requires c =
@@ -54,6 +54,8 @@ note-requires c =
           let k = c.loop-i in
           fresh_low a.count a.ok.now k.marks c.place-t.result p.1 (sym c.is_fresh.ensures.is ∙ c.if-not-is_fresh.false);
     }
+=======
+>>>>>>> 72450a3 (together_queues, together, refusals: proofs as answers, laid out; what search finds itself is gone)
 
 pub loop-i-preserved : goal.loop-i-preserved
 loop-i-preserved c =
@@ -64,16 +66,6 @@ loop-i-preserved c =
     rw (c.note.ensures.is ∙ ap (mark k.marks) c.place-t.ensures.is)
     (walked_on a.present.0 a.top a.n a.count a.ok.now a.keys.now a.tasks.now a.marks.now k.invariant (omega arith) c.loop-i-test.true (ap (λ (x : ℕ). key_ok a.present.0 a.top x (get_or a.keys.now k.i 0)) (sym c.place-t.ensures.is) ∙ sym c.key_ok.ensures.is ∙ c.if-not-key_ok.false) (ap (fresh a.count a.ok.now k.marks) (sym c.place-t.ensures.is) ∙ sym c.is_fresh.ensures.is ∙ c.if-not-is_fresh.false)
     (sym c.in_turn.ensures.is ∙ c.if-not-in_turn.false) _ refl)
-
-pub overflow_sub-sum : goal.overflow_sub-sum
-overflow_sub-sum c =
-    let a = c.args in
-    let p = c.requires.inside in
-    let z = c.measure.ensures.is in
-    let k = c.loop-i in
-    let t = c.loop-i-test.true in
-    let s = sum_small a.present.0 a.top a.n a.count a.ok.now a.keys.now a.tasks.now a.marks.now k.invariant (omega arith) (longest * most_scale) p.2 (omega arith) (ap (λ (x : ℕ). key_ok a.present.0 a.top x (get_or a.keys.now k.i 0)) (sym c.place-t.ensures.is) ∙ sym c.key_ok.ensures.is ∙ c.if-not-key_ok.false) in
-    omega (arith, s.0)
 
 pub overflow_add-sum : goal.overflow_add-sum
 overflow_add-sum c =

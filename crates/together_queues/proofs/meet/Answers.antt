@@ -1,11 +1,8 @@
 use mathlib.Core.Path.{sym, ◌∙◌, ap}
 use mathlib.Core.Bool.{false≢true}
 use Rattle.state.specs.Sound.{fresh, mark}
-use Rattle.together_queues.proofs.Meeting.{meets_from, meets_on, meets_fails, meets_end, fresh_low}
+use Rattle.together_queues.proofs.Meeting.{meets_on, meets_fails, meets_end}
 use Rattle.together_queues.proofs.meet.Goals as goal
-
-pub loop-i-init : goal.loop-i-init
-loop-i-init c = let a = c.args in meets_from a.n a.count a.ok.now a.tasks.now a.marks.now
 
 pub returns-then-not-is_fresh : goal.returns-then-not-is_fresh
 returns-then-not-is_fresh c =
@@ -15,6 +12,7 @@ returns-then-not-is_fresh c =
           let f = ap (fresh a.count a.ok.now k.marks) (sym c.place-t.ensures.is) ∙ sym c.is_fresh.ensures.is ∙ c.if-not-is_fresh.true in
           (sym (meets_fails k.invariant c.requires.inside.0 c.loop-i-test.true f), λ e. absurd (false≢true e));
     }
+<<<<<<< HEAD
 
 pub note-requires : goal.note-requires
 note-requires c =
@@ -23,6 +21,8 @@ note-requires c =
           let k = c.loop-i in
           fresh_low a.count a.ok.now k.marks c.place-t.result c.requires.inside.1 (sym c.is_fresh.ensures.is ∙ c.if-not-is_fresh.false);
     }
+=======
+>>>>>>> 72450a3 (together_queues, together, refusals: proofs as answers, laid out; what search finds itself is gone)
 
 pub loop-i-preserved : goal.loop-i-preserved
 loop-i-preserved c =
