@@ -9,25 +9,6 @@ use Rattle.together_rows.proofs.Folds.{and_next, second_holds}
 use Rattle.together_queues.proofs.Planes.{closed_sound}
 use Rattle.together_queues.proofs.closed_ok.Goals as goal
 
-<<<<<<< HEAD
-pub returns-then-present-scale-ne0 : goal.returns-then-present-scale-ne0
-returns-then-present-scale-ne0 c = record { is = let a = c.args in λ end awake wk wt. sym (second_fails (sound_by a.count a.m a.present.0 end awake (at a.rk.now a.rt.now a.rn) (at wk wt a.wn) a.slots.now) _ (and_first (eqb (a.present.0 % a.scale) 0) _ (ne_eqb _ _ c.if-present-scale-ne0.true))) }
-
-pub returns-then-rn-ne0 : goal.returns-then-rn-ne0
-returns-then-rn-ne0 c = record { is = let a = c.args in λ end awake wk wt. sym (second_fails (sound_by a.count a.m a.present.0 end awake (at a.rk.now a.rt.now a.rn) (at wk wt a.wn) a.slots.now) _ (and_next (eqb (a.present.0 % a.scale) 0) _ (eq-eqb _ _ c.if-present-scale-ne0.false) ∙ and_first (eqb a.rn 0) _ (ne_eqb _ _ c.if-rn-ne0.true))) }
-
-pub returns-then-wn-ne0 : goal.returns-then-wn-ne0
-returns-then-wn-ne0 c =
-    record {
-      is = let a = c.args in
-          λ end awake wk wt. sym (second_fails (sound_by a.count a.m a.present.0 end awake (at a.rk.now a.rt.now a.rn) (at wk wt a.wn) a.slots.now) _ (and_next (eqb (a.present.0 % a.scale) 0) _ (eq-eqb _ _ c.if-present-scale-ne0.false) ∙ and_next (eqb a.rn 0) _ (eq-eqb _ _ c.if-rn-ne0.false) ∙ ne_eqb _ _ c.if-wn-ne0.true));
-    }
-
-pub seats_ok-requires : goal.seats_ok-requires
-seats_ok-requires c = record { inside = let p = c.requires.small in (p.0, (let z = c.if-rn-ne0.false in omega arith)) }
-
-=======
->>>>>>> 72450a3 (together_queues, together, refusals: proofs as answers, laid out; what search finds itself is gone)
 pub returns : goal.returns
 returns c =
     record {

@@ -43,19 +43,6 @@ returns-then-not-in_turn c =
           let k = c.loop-i in
           (sym (turn_fails a.present.0 a.top a.n a.count a.ok.now a.keys.now a.tasks.now a.marks.now k.i z p.0 c.loop-i-test.true (sym c.in_turn.ensures.is ∙ c.if-not-in_turn.true)), λ f. clash false refl f);
     }
-<<<<<<< HEAD
-
-pub note-requires : goal.note-requires
-note-requires c =
-    record {
-      inside = let a = c.args in
-          let p = c.requires.inside in
-          let z = c.measure.ensures.is in
-          let k = c.loop-i in
-          fresh_low a.count a.ok.now k.marks c.place-t.result p.1 (sym c.is_fresh.ensures.is ∙ c.if-not-is_fresh.false);
-    }
-=======
->>>>>>> 72450a3 (together_queues, together, refusals: proofs as answers, laid out; what search finds itself is gone)
 
 pub loop-i-preserved : goal.loop-i-preserved
 loop-i-preserved c =

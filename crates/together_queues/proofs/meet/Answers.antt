@@ -12,17 +12,6 @@ returns-then-not-is_fresh c =
           let f = ap (fresh a.count a.ok.now k.marks) (sym c.place-t.ensures.is) ∙ sym c.is_fresh.ensures.is ∙ c.if-not-is_fresh.true in
           (sym (meets_fails k.invariant c.requires.inside.0 c.loop-i-test.true f), λ e. absurd (false≢true e));
     }
-<<<<<<< HEAD
-
-pub note-requires : goal.note-requires
-note-requires c =
-    record {
-      inside = let a = c.args in
-          let k = c.loop-i in
-          fresh_low a.count a.ok.now k.marks c.place-t.result c.requires.inside.1 (sym c.is_fresh.ensures.is ∙ c.if-not-is_fresh.false);
-    }
-=======
->>>>>>> 72450a3 (together_queues, together, refusals: proofs as answers, laid out; what search finds itself is gone)
 
 pub loop-i-preserved : goal.loop-i-preserved
 loop-i-preserved c =

@@ -17,20 +17,6 @@ use Rattle.together_queues.proofs.Entries.{key_in}
 use Rattle.together_queues.proofs.Planes.{open_fails, open_last, sums_flip}
 use Rattle.together_queues.proofs.open_ok.Goals as goal
 
-<<<<<<< HEAD
-pub overflow_mul-close : goal.overflow_mul-close
-overflow_mul-close c = let a = c.args in let p = c.requires.small in omega (arith, end_fits a.end a.scale p.end_low p.scale_in.1)
-
-pub returns-then-close-present : goal.returns-then-close-present
-returns-then-close-present c =
-    record {
-      is = let a = c.args in
-          let close = a.end * a.scale in
-          sym (open_fails a.shares a.count a.m a.scale a.present.0 close a.awake.now a.rk.now a.rt.now a.rn a.wk.now a.wt.now a.wn a.slots.now _ (λ O. O.later) (le-ltb a.present.0 close c.if-close-present.true));
-    }
-
-=======
->>>>>>> 72450a3 (together_queues, together, refusals: proofs as answers, laid out; what search finds itself is gone)
 pub returns-then-rn-gt128 : goal.returns-then-rn-gt128
 returns-then-rn-gt128 c =
     record {
@@ -54,18 +40,6 @@ returns-then-not-idle_ok c =
           let close = a.end * a.scale in
           sym (open_fails a.shares a.count a.m a.scale a.present.0 close a.awake.now a.rk.now a.rt.now a.rn a.wk.now a.wt.now a.wn a.slots.now _ (λ O. O.idle) (sym c.idle_ok.ensures.is ∙ c.if-not-idle_ok.true));
     }
-<<<<<<< HEAD
-
-pub entries_ok-runs-requires : goal.entries_ok-runs-requires
-entries_ok-runs-requires c =
-    record {
-      inside = let a = c.args in
-          let close = a.end * a.scale in
-          let left = left_small a.scale a.present.0 close c.requires.small.scale_in.1 c.requires.small.near in
-          (c.if-rn-gt128.false, c.requires.small.rows, left);
-    }
-=======
->>>>>>> 72450a3 (together_queues, together, refusals: proofs as answers, laid out; what search finds itself is gone)
 
 pub returns-then-not-runs : goal.returns-then-not-runs
 returns-then-not-runs c =
@@ -74,12 +48,6 @@ returns-then-not-runs c =
           let close = a.end * a.scale in
           sym (open_fails a.shares a.count a.m a.scale a.present.0 close a.awake.now a.rk.now a.rt.now a.rn a.wk.now a.wt.now a.wn a.slots.now _ (λ O. O.runs) (sym c.entries_ok-runs.ensures.is.0 ∙ not-true _ c.if-not-runs.true));
     }
-<<<<<<< HEAD
-
-pub seats_ok-requires : goal.seats_ok-requires
-seats_ok-requires c = record { inside = (c.requires.small.rows, c.if-rn-gt128.false) }
-=======
->>>>>>> 72450a3 (together_queues, together, refusals: proofs as answers, laid out; what search finds itself is gone)
 
 pub returns-then-not-seats_ok : goal.returns-then-not-seats_ok
 returns-then-not-seats_ok c =
@@ -89,21 +57,6 @@ returns-then-not-seats_ok c =
           let M = c.entries_ok-runs.ensures.is.1 (not-false _ c.if-not-runs.false) in
           sym (open_fails a.shares a.count a.m a.scale a.present.0 close a.awake.now a.rk.now a.rt.now a.rn a.wk.now a.wt.now a.wn a.slots.now _ (λ O. O.seats) (ap (λ (l : List Bool). slots_ok a.m a.slots.now && (all_fresh a.count l a.slots.now no_marks && runs_ok a.present.0 (all_marked a.slots.now no_marks) a.rk.now a.rt.now a.rn)) (sym M.0) ∙ sym c.seats_ok.ensures.is ∙ c.if-not-seats_ok.true));
     }
-<<<<<<< HEAD
-
-pub overflow_sub-close : goal.overflow_sub-close
-overflow_sub-close c = let h = c.if-close-present.false in omega arith
-
-pub entries_ok-waits-requires : goal.entries_ok-waits-requires
-entries_ok-waits-requires c =
-    record {
-      inside = let a = c.args in
-          let close = a.end * a.scale in
-          let left = left_small a.scale a.present.0 close c.requires.small.scale_in.1 c.requires.small.near in
-          (c.if-wn-gt128.false, c.requires.small.rows, omega (arith, left));
-    }
-=======
->>>>>>> 72450a3 (together_queues, together, refusals: proofs as answers, laid out; what search finds itself is gone)
 
 pub returns-then-not-waits : goal.returns-then-not-waits
 returns-then-not-waits c =
@@ -113,21 +66,6 @@ returns-then-not-waits c =
           let M = c.entries_ok-runs.ensures.is.1 (not-false _ c.if-not-runs.false) in
           sym (open_fails a.shares a.count a.m a.scale a.present.0 close a.awake.now a.rk.now a.rt.now a.rn a.wk.now a.wt.now a.wn a.slots.now _ (λ O. O.waits) (ap (λ (l : List Bool). stands_of (at a.wk.now a.wt.now a.wn) && (all_fresh a.count a.awake.now (take a.wn a.wt.now) l && keys_ok a.present.0 (close - 1) a.wk.now a.wt.now a.wn)) (sym M.0) ∙ sym c.entries_ok-waits.ensures.is.0 ∙ not-true _ c.if-not-waits.true));
     }
-<<<<<<< HEAD
-
-pub between-left-requires : goal.between-left-requires
-between-left-requires c = record { ordered = let h = c.if-close-present.false in omega arith }
-
-pub overflow_mul-work : goal.overflow_mul-work
-overflow_mul-work c =
-    let a = c.args in
-    let close = a.end * a.scale in
-    let left = left_small a.scale a.present.0 close c.requires.small.scale_in.1 c.requires.small.near in
-    let b = ap (λ (z : Amount). a.wn * z.0) c.between-left.ensures.is in
-    let h = c.if-wn-gt128.false in
-    omega (arith, b, wait_fits a.wn a.present.0 close h left)
-=======
->>>>>>> 72450a3 (together_queues, together, refusals: proofs as answers, laid out; what search finds itself is gone)
 
 pub overflow_sub-work : goal.overflow_sub-work
 overflow_sub-work c =
@@ -154,17 +92,6 @@ overflow_add-work c =
     let k = (and_both (all_fresh a.count a.awake.now (take a.rn a.rt.now) no_marks) _ r).1 in
     omega (arith, M.1, b, wait_fits a.wn a.present.0 close h left, run_fits a.present.0 close a.rk.now a.rt.now a.rn k c.if-rn-gt128.false left)
 
-<<<<<<< HEAD
-pub sum_ok-requires : goal.sum_ok-requires
-sum_ok-requires c =
-    record {
-      small = let p = c.requires.small in
-          let b = ap (λ (z : Amount). z.0) c.between-left.ensures.is in
-          (p.scale_in.0, p.scale_in.1, omega (arith, p.near), p.sum);
-    }
-
-=======
->>>>>>> 72450a3 (together_queues, together, refusals: proofs as answers, laid out; what search finds itself is gone)
 pub returns : goal.returns
 returns c =
     record {
