@@ -1,4 +1,5 @@
 // A number put into a state, wherever it is: states that no call hands back.
+use crate::words::same;
 use ground::Instant;
 use queue::Queue;
 use state::{Jobs, State};
@@ -16,35 +17,35 @@ fn low16(x: u64) -> u16 {
 fn set_table(held: Table, column: &[u8], at: usize, x: u64) -> Table {
     let mut t = held;
     let i = at % 128;
-    if check::same(column, b"period") {
+    if same(column, b"period") {
         t.period[i] = low32(x);
         return t;
     }
-    if check::same(column, b"exec") {
+    if same(column, b"exec") {
         t.exec[i] = low32(x);
         return t;
     }
-    if check::same(column, b"deadline") {
+    if same(column, b"deadline") {
         t.deadline[i] = low32(x);
         return t;
     }
-    if check::same(column, b"share") {
+    if same(column, b"share") {
         t.share[i] = x;
         return t;
     }
-    if check::same(column, b"order") {
+    if same(column, b"order") {
         t.order[i] = low16(x);
         return t;
     }
-    if check::same(column, b"count") {
+    if same(column, b"count") {
         t.count = x as usize;
         return t;
     }
-    if check::same(column, b"m") {
+    if same(column, b"m") {
         t.m = x as usize;
         return t;
     }
-    if check::same(column, b"scale") {
+    if same(column, b"scale") {
         t.scale = x;
     }
     t
@@ -53,15 +54,15 @@ fn set_table(held: Table, column: &[u8], at: usize, x: u64) -> Table {
 fn set_jobs(held: Jobs, column: &[u8], at: usize, x: u64) -> Jobs {
     let mut t = held;
     let i = at % 128;
-    if check::same(column, b"awake") {
+    if same(column, b"awake") {
         t.awake[i] = x == 1;
         return t;
     }
-    if check::same(column, b"arrived") {
+    if same(column, b"arrived") {
         t.arrived[i] = x == 1;
         return t;
     }
-    if check::same(column, b"last") {
+    if same(column, b"last") {
         t.last[i] = x;
     }
     t
@@ -79,15 +80,15 @@ fn set_queue(
 ) -> Queue {
     let mut t = held;
     let i = at % 128;
-    if check::same(column, keys) {
+    if same(column, keys) {
         t.keys[i] = x;
         return t;
     }
-    if check::same(column, tasks) {
+    if same(column, tasks) {
         t.tasks[i] = low16(x);
         return t;
     }
-    if check::same(column, len) {
+    if same(column, len) {
         t.len = x as usize;
     }
     t
@@ -95,7 +96,7 @@ fn set_queue(
 
 fn set_slots(held: [u16; 16], column: &[u8], at: usize, x: u64) -> [u16; 16] {
     let mut t = held;
-    if check::same(column, b"slots") {
+    if same(column, b"slots") {
         t[at % 16] = low16(x);
     }
     t
@@ -103,7 +104,7 @@ fn set_slots(held: [u16; 16], column: &[u8], at: usize, x: u64) -> [u16; 16] {
 
 // A number in its place, or another where the column is this one.
 fn set_number(held: u64, column: &[u8], name: &[u8], x: u64) -> u64 {
-    if check::same(column, name) {
+    if same(column, name) {
         return x;
     }
     held
@@ -135,7 +136,7 @@ pub(crate) fn set(s: State, column: &[u8], at: usize, x: u64) -> State {
     let slots = set_slots(seats, column, at, x);
     let present = s.now;
     let moved = Instant(set_number(present.0, column, b"now", x));
-    let going = if check::same(column, b"going") {
+    let going = if same(column, b"going") {
         x == 1
     } else {
         s.going

@@ -7,9 +7,12 @@ mod damage;
 mod numbers;
 mod orders;
 mod say;
+mod words;
 
-fn main() {
-    let mut buf = io::large_buffer();
-    let n = io::read_full(0, &mut buf);
-    orders::all(&buf[..n]);
+use std::io;
+
+fn main(rt: HostRuntime) -> io::Result<()> {
+    let mut buf = [0u8; 65536];
+    let n = reading::read_full(&mut rt.stdin(), &mut buf)?;
+    orders::all(&rt, &buf[..n])
 }

@@ -15,12 +15,15 @@ ghost use Rattle.std.specs.Prelude.{◌≡◌, ◌+◌, ◌≤◌, length};
 ghost use Rattle.ground.specs.Bytes.{le, pasted};
 
 use crate::numbers::{at_most, plus};
+use crate::words::same;
 use crate::{course, damage, say};
 use admission::Admitted;
 use calls::Stepped;
 use course::Plan;
+use reading::place_of;
 use rules::Answer;
 use state::State;
+use std::io;
 
 // BYTES
 
@@ -103,9 +106,9 @@ fn asked(s: State) -> [u64; 2] {
     [number_of(arrived), number_of(stepped)]
 }
 
-fn ask(s: State, name: &[u8]) {
+fn ask(out: &impl Print, s: State, name: &[u8]) -> io::Result<()> {
     let n = asked(s);
-    say::form(b"@: arrive # step #\n", name, &n);
+    say::form(out, b"@: arrive # step #\n", name, &n)
 }
 
 // Admission of the table's first bytes.
@@ -118,40 +121,51 @@ fn admitted(table: &[u8], len: usize, m: usize) -> Admitted {
 }
 
 // The line of an admission: number and row, then the scale or what the blank state answers.
-fn admit_line(s: State, m: usize, answer: u64, row: usize, name: &[u8]) {
+fn admit_line(
+    out: &impl Print,
+    s: State,
+    m: usize,
+    answer: u64,
+    row: usize,
+    name: &[u8],
+) -> io::Result<()> {
     if answer == 0 {
         let held = s.table;
         let n = [m as u64, held.scale];
-        say::form(b"admit @, m #: 0 row 0 scale #\n", name, &n);
-        return;
+        return say::form(out, b"admit @, m #: 0 row 0 scale #\n", name, &n);
     }
     let blank = asked(s);
     let n = [m as u64, answer, row as u64, blank[0], blank[1]];
-    say::form(b"admit @, m #: # row #, then arrive # step #\n", name, &n);
+    say::form(
+        out,
+        b"admit @, m #: # row #, then arrive # step #\n",
+        name,
+        &n,
+    )
 }
 
-fn admit(table: &[u8], len: usize, m: usize, name: &[u8]) -> State {
+fn admit(out: &impl Print, table: &[u8], len: usize, m: usize, name: &[u8]) -> io::Result<State> {
     let r = admitted(table, len, m);
     let answer = r.answer;
     let state = r.state;
     if 0 < name.len() {
-        admit_line(state, m, number_of(answer), r.row, name);
+        admit_line(out, state, m, number_of(answer), r.row, name)?;
     }
-    state
+    Ok(state)
 }
 
-fn arrive(s: State, task: u64, name: &[u8]) -> State {
+fn arrive(out: &impl Print, s: State, task: u64, name: &[u8]) -> io::Result<State> {
     let r = calls::arrive(s, task);
     let answer = r.answer;
     let state = r.state;
     let present = state.now;
     let n = [task, number_of(answer), present.0];
     if name.len() == 0 {
-        say::form(b"arrive #: #\n", name, &n);
-        return state;
+        say::form(out, b"arrive #: #\n", name, &n)?;
+        return Ok(state);
     }
-    say::form(b"@: arrive #: #, present #\n", name, &n);
-    state
+    say::form(out, b"@: arrive #: #, present #\n", name, &n)?;
+    Ok(state)
 }
 
 // A step into the first bytes of a room.
@@ -164,19 +178,24 @@ fn stepped(s: State, horizon: u64, room: &mut [u8], len: usize) -> Stepped {
 }
 
 // The line of a step without a name: its answer, and its record.
-fn record_line(horizon: u64, r: u64, room: &[u8; 60], m: usize) {
+fn record_line(
+    out: &impl Print,
+    horizon: u64,
+    r: u64,
+    room: &[u8; 60],
+    m: usize,
+) -> io::Result<()> {
     let n = [horizon, r];
     if r == 0 {
-        let mut out = [0u8; 138];
-        let k = print::put_records(&mut out, room, 1, at_most(m, 16));
-        say::form(b"step #: #, @", &out[..k], &n);
-        return;
+        let mut line = [0u8; 138];
+        let k = print::put_records(&mut line, room, 1, at_most(m, 16));
+        return say::form(out, b"step #: #, @", &line[..k], &n);
     }
-    say::form(b"step #: #\n", b"", &n);
+    say::form(out, b"step #: #\n", b"", &n)
 }
 
 // A step into so many of 60 bytes 255; with a name, how many of the first 48 bytes and of the others it changed.
-fn step(s: State, horizon: u64, len: u64, name: &[u8]) -> State {
+fn step(out: &impl Print, s: State, horizon: u64, len: u64, name: &[u8]) -> io::Result<State> {
     let mut room = [255u8; 60];
     let r = stepped(s, horizon, &mut room, len as usize);
     let answer = r.answer;
@@ -184,8 +203,8 @@ fn step(s: State, horizon: u64, len: u64, name: &[u8]) -> State {
     let number = number_of(answer);
     if name.len() == 0 {
         let held = state.table;
-        record_line(horizon, number, &room, held.m);
-        return state;
+        record_line(out, horizon, number, &room, held.m)?;
+        return Ok(state);
     }
     let present = state.now;
     let n = [
@@ -197,15 +216,16 @@ fn step(s: State, horizon: u64, len: u64, name: &[u8]) -> State {
         present.0,
     ];
     say::form(
+        out,
         b"@: step # room #: #, changed # and #, present #\n",
         name,
         &n,
-    );
-    state
+    )?;
+    Ok(state)
 }
 
 // A run of at most 5,461 records.
-fn run(s: State, tick: u64) -> State {
+fn run(out: &impl Print, s: State, tick: u64) -> io::Result<State> {
     let mut room = [0u8; 262144];
     let r = calls::run(s, tick, &mut room);
     let state = r.state;
@@ -213,18 +233,24 @@ fn run(s: State, tick: u64) -> State {
     let n = [tick, r.records as u64, present.0, state.end];
     if state.going {
         say::form(
+            out,
             b"run to #: records #, present #, plane open to #\n",
             b"",
             &n,
-        );
-        return state;
+        )?;
+        return Ok(state);
     }
-    say::form(b"run to #: records #, present #, plane closed\n", b"", &n);
-    state
+    say::form(
+        out,
+        b"run to #: records #, present #, plane closed\n",
+        b"",
+        &n,
+    )?;
+    Ok(state)
 }
 
 // A course from the state.
-fn course_from(s: State, n: [u64; 6], name: &[u8]) {
+fn course_from(out: &impl Print, s: State, n: [u64; 6], name: &[u8]) -> io::Result<()> {
     let p = Plan {
         chance: n[2],
         stride: n[3],
@@ -233,10 +259,11 @@ fn course_from(s: State, n: [u64; 6], name: &[u8]) {
     };
     let book = course::course(s, p);
     say::form(
+        out,
         b"course @: records # sum #, arrivals #, refused 9 #, refused else #, jobs compared #, differ #, gaps #, twice #\n",
         name,
         &book,
-    );
+    )
 }
 
 // LINES
@@ -284,40 +311,40 @@ fn numbers_of(s: &[u8]) -> [u64; 6] {
 
 // The number of the order with this word, or 0.
 fn order_of(word: &[u8]) -> u64 {
-    if check::same(word, b"table") {
+    if same(word, b"table") {
         return 1;
     }
-    if check::same(word, b"rows") {
+    if same(word, b"rows") {
         return 2;
     }
-    if check::same(word, b"length") {
+    if same(word, b"length") {
         return 3;
     }
-    if check::same(word, b"admit") {
+    if same(word, b"admit") {
         return 4;
     }
-    if check::same(word, b"course") {
+    if same(word, b"course") {
         return 5;
     }
-    if check::same(word, b"arrive") {
+    if same(word, b"arrive") {
         return 6;
     }
-    if check::same(word, b"step") {
+    if same(word, b"step") {
         return 7;
     }
-    if check::same(word, b"run") {
+    if same(word, b"run") {
         return 8;
     }
-    if check::same(word, b"set") {
+    if same(word, b"set") {
         return 9;
     }
-    if check::same(word, b"keep") {
+    if same(word, b"keep") {
         return 10;
     }
-    if check::same(word, b"back") {
+    if same(word, b"back") {
         return 11;
     }
-    if check::same(word, b"ask") {
+    if same(word, b"ask") {
         return 12;
     }
     0
@@ -334,30 +361,46 @@ fn obey_table(order: u64, n: [u64; 6], table: &mut [u8], len: usize) -> usize {
 }
 
 // Orders that make a state of the table.
-fn obey_both(order: u64, n: [u64; 6], name: &[u8], s: State, table: &[u8], len: usize) -> State {
+fn obey_both(
+    out: &impl Print,
+    order: u64,
+    n: [u64; 6],
+    name: &[u8],
+    s: State,
+    table: &[u8],
+    len: usize,
+) -> io::Result<State> {
     if order == 4 {
-        return admit(table, len, n[1] as usize, name);
+        return admit(out, table, len, n[1] as usize, name);
     }
     if order == 5 {
         let r = admitted(table, len, n[1] as usize);
-        course_from(r.state, n, name);
+        course_from(out, r.state, n, name)?;
     }
-    s
+    Ok(s)
 }
 
 // Orders on the state; kept is the state that was kept.
-fn obey_state(order: u64, n: [u64; 6], column: &[u8], name: &[u8], s: State, kept: State) -> State {
+fn obey_state(
+    out: &impl Print,
+    order: u64,
+    n: [u64; 6],
+    column: &[u8],
+    name: &[u8],
+    s: State,
+    kept: State,
+) -> io::Result<State> {
     match order {
-        6 => arrive(s, n[1], name),
-        7 => step(s, n[1], n[2], name),
-        8 => run(s, n[1]),
-        9 => damage::set(s, column, n[2] as usize, n[3]),
-        11 => kept,
+        6 => arrive(out, s, n[1], name),
+        7 => step(out, s, n[1], n[2], name),
+        8 => run(out, s, n[1]),
+        9 => Ok(damage::set(s, column, n[2] as usize, n[3])),
+        11 => Ok(kept),
         12 => {
-            ask(s, name);
-            kept
+            ask(out, s, name)?;
+            Ok(kept)
         }
-        _ => s,
+        _ => Ok(s),
     }
 }
 
@@ -392,13 +435,13 @@ struct Held {
 }
 
 // A line: its word ends at the first space, its numbers at the colon.
-fn line(s: &[u8], held: Held, table: &mut [u8]) -> Held {
+fn line(out: &impl Print, s: &[u8], held: Held, table: &mut [u8]) -> io::Result<Held> {
     let start: usize = 0;
     let end = s.len();
-    let colon = bytes::scan::find(s, start, end, 58);
-    let space = bytes::scan::find(s, start, colon, 32);
+    let colon = place_of(s, b':');
+    let space = place_of(&s[start..colon], b' ');
     let second = word_at(space, colon);
-    let next = bytes::scan::find(s, second, colon, 32);
+    let next = second + place_of(&s[second..colon], b' ');
     let from = name_at(colon, end);
     let word = &s[start..space];
     let column = &s[second..next];
@@ -407,19 +450,19 @@ fn line(s: &[u8], held: Held, table: &mut [u8]) -> Held {
     let order = order_of(word);
     let first = held.state;
     let before = held.kept;
-    let then = obey_state(order, n, column, name, first, before);
-    let state = obey_both(order, n, name, then, table, held.len);
+    let then = obey_state(out, order, n, column, name, first, before)?;
+    let state = obey_both(out, order, n, name, then, table, held.len)?;
     let kept = if order == 10 { state } else { before };
     let len = obey_table(order, n, table, held.len);
-    Held {
+    Ok(Held {
         state: state,
         kept: kept,
         len: len,
-    }
+    })
 }
 
 // All lines.
-pub(crate) fn all(s: &[u8])
+pub(crate) fn all(out: &impl Print, s: &[u8]) -> io::Result<()>
     requires short { length s.now ≤ 65536 }
 {
     let mut table = [0u8; 1548];
@@ -432,8 +475,9 @@ pub(crate) fn all(s: &[u8])
     };
     let mut at: usize = 0;
     while at < s.len() {
-        let end = bytes::scan::find(s, at, s.len(), 10);
-        held = line(&s[at..end], held, &mut table);
+        let end = at + place_of(&s[at..], b'\n');
+        held = line(out, &s[at..end], held, &mut table)?;
         at = end + 1;
     }
+    Ok(())
 }

@@ -1,38 +1,39 @@
 // What the program writes.
-use libc::STDOUT_FILENO;
+use std::io;
 
-pub(crate) fn words(w: &[u8]) {
-    io::write_all(STDOUT_FILENO, w);
+pub(crate) fn words(out: &impl Print, w: &[u8]) -> io::Result<()> {
+    out.write_all(w)
 }
 
 // The number at a place, in digits, and the next place; nothing where there is no such place.
-fn number(n: &[u64], i: usize) -> usize {
+fn number(out: &impl Print, n: &[u64], i: usize) -> io::Result<usize> {
     if i < n.len() {
-        io::print_decimal(STDOUT_FILENO, n[i]);
-        return i + 1;
+        out.print(n[i])?;
+        return Ok(i + 1);
     }
-    i
+    Ok(i)
 }
 
 // One byte of a form: the name at an @, the number at place i at a #; the place of the next number.
-fn piece(b: u8, name: &[u8], n: &[u64], i: usize) -> usize {
+fn piece(out: &impl Print, b: u8, name: &[u8], n: &[u64], i: usize) -> io::Result<usize> {
     if b == b'#' {
-        return number(n, i);
+        return number(out, n, i);
     }
     if b == b'@' {
-        words(name);
-        return i;
+        words(out, name)?;
+        return Ok(i);
     }
-    words(&[b]);
-    i
+    words(out, &[b])?;
+    Ok(i)
 }
 
 // A form with the name at each @, and the numbers in turn at each #.
-pub(crate) fn form(f: &[u8], name: &[u8], n: &[u64]) {
+pub(crate) fn form(out: &impl Print, f: &[u8], name: &[u8], n: &[u64]) -> io::Result<()> {
     let mut i: usize = 0;
     let mut k: usize = 0;
     while k < f.len() {
-        i = piece(f[k], name, n, i);
+        i = piece(out, f[k], name, n, i)?;
         k += 1;
     }
+    Ok(())
 }

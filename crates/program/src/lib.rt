@@ -1,29 +1,37 @@
 // The program: reads a text, and writes its listing chunk by chunk.
 #![tactic(auto)]
 
-use libc::STDOUT_FILENO;
+ghost use Rattle.std.specs.Prelude.{IfSome, OnOk};
+ghost use Rattle.std.specs.Io.KnownBytes.{Appends};
+ghost use Rattle.output.specs.Output.{output_of};
+
+use std::io;
+use std::io::{Read, Write};
 
 // Writes the listing of a text, until it is at its end or nobody takes it.
-fn write_listing(text: &[u8]) {
-    let mut out = io::large_buffer();
+fn write_listing<W: Write>(text: &[u8], to: &mut W) -> io::Result<()>
+    ensures is { OnOk result (Appends (W.contents to.old) (W.contents to.new) (output_of text.now)) }
+{
+    let mut out = [0u8; 65536];
     let mut c = course::first();
     loop {
         let stage = c.stage;
         if course::is_ended(stage) {
-            return;
+            return Ok(());
         }
         let r = listing::next(text, c, &mut out);
         let len = r.len;
-        if !io::write_all(STDOUT_FILENO, &out[..len]) {
-            return;
-        }
+        to.write_all(&out[..len])?;
         c = r.cursor;
     }
 }
 
-// Reads a text from a descriptor and writes its listing. A text of more than 65,537 bytes need not be read to its end.
-pub fn list_from(fd: i32) {
+// Reads a text and writes its listing. A text of more than 65,537 bytes need not be read to its end.
+pub fn list_from<R: Read, W: Write>(from: &mut R, to: &mut W) -> io::Result<()>
+    ensures is { OnOk result (IfSome (R.remaining from.old)
+        (λ text. Appends (W.contents to.old) (W.contents to.new) (output_of text))) }
+{
     let mut text = [0u8; 65537];
-    let n = io::read_full(fd, &mut text);
-    write_listing(&text[..n]);
+    let n = reading::read_full(from, &mut text)?;
+    write_listing(&text[..n], to)
 }

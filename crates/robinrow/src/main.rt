@@ -1,6 +1,8 @@
 // The program: a text in, its listing out.
 #![tactic(auto)]
 
-fn main() {
-    program::list_from(libc::STDIN_FILENO);
+use std::io;
+
+fn main(rt: HostRuntime) -> io::Result<()> {
+    program::list_from(&mut rt.stdin(), &mut rt.stdout())
 }

@@ -3,35 +3,43 @@
 
 ghost use Rattle.std.specs.Prelude.{◌≤◌, length};
 
-use libc::STDOUT_FILENO;
+use std::fs::File;
+use std::io;
+use std::rt::Files;
 
-// One text.
-fn text(name: &[u8]) {
-    io::write_all(STDOUT_FILENO, name);
-    io::write_all(STDOUT_FILENO, b":\n");
-    let fd = os::open_read(name);
-    if fd < 0 {
-        os::fail(name);
-        return;
+// The file with this name.
+fn open<R: Files>(rt: &R, name: &[u8]) -> io::Result<R::File> {
+    match str::from_utf8(name) {
+        Ok(path) => File::open(rt, path),
+        Err(_) => Err(io::Error::from(io::ErrorKind::InvalidInput)),
     }
-    program::list_from(fd);
-    libc::close(fd);
+}
+
+// One text. A file that cannot be opened is told on standard error.
+fn text(rt: &(impl Files + Print + Eprint), name: &[u8]) -> io::Result<()> {
+    rt.write_all(name)?;
+    rt.write_all(b":\n")?;
+    match open(rt, name) {
+        Ok(mut file) => program::list_from(&mut file, &mut io::writer(rt)),
+        Err(e) => eprintln!(rt; "{}: {e}", name.escape_ascii()),
+    }
 }
 
 // Each of the texts.
-fn texts(names: &[u8])
+fn texts(rt: &(impl Files + Print + Eprint), names: &[u8]) -> io::Result<()>
     requires short { length names.now ≤ 65536 }
 {
     let mut at: usize = 0;
     while at < names.len() {
-        let end = bytes::scan::find(names, at, names.len(), 10);
-        text(&names[at..end]);
+        let end = at + reading::place_of(&names[at..], b'\n');
+        text(rt, &names[at..end])?;
         at = end + 1;
     }
+    Ok(())
 }
 
-fn main() {
-    let mut buf = io::large_buffer();
-    let n = io::read_full(0, &mut buf);
-    texts(&buf[..n]);
+fn main(rt: HostRuntime) -> io::Result<()> {
+    let mut buf = [0u8; 65536];
+    let n = reading::read_full(&mut rt.stdin(), &mut buf)?;
+    texts(&rt, &buf[..n])
 }
