@@ -3,13 +3,11 @@ use Rattle.listing.proofs.Chunks.{turn_cursor, turn_chunk, turn_fits, pays}
 use Rattle.listing.proofs.next.Goals as goal
 
 pub put_part-len-requires : goal.put_part-len-requires
-put_part-len-requires c =
-    record { fits = let a = c.args in
-    turn_fits a.c c.turn-t.result c.turn-t.ensures.moves.0 }
+put_part-len-requires c = record { fits = turn_fits c.args.c c.turn-t.result c.turn-t.ensures.moves.0 }
 
 pub returns : goal.returns
 returns c =
     let a = c.args in
     let e = turn_cursor a.text.now a.c c.turn-t.result c.turn-t.ensures.is.0 in
     let p = put_as _ _ _ _ _ _ (turn_chunk a.text.now a.c c.turn-t.result _ c.turn-t.ensures.is.0 c.turn-t.ensures.is.1) c.put_part-len.ensures.is in
-    ((e, p), (c.put_part-len.ensures.counts, (pays a.text.now a.c _ _ _ _ e p, c.turn-t.ensures.moves.1)))
+    record { is = (e, p); counts = c.put_part-len.ensures.counts; pays = pays a.text.now a.c _ _ _ _ e p; ends = c.turn-t.ensures.moves.1 }
