@@ -51,7 +51,7 @@ pub extern "C" fn robinrow_admit_in(
 ) -> u32
     ensures is { (result ≡ admit_number bytes.now processors) × (row.new ≡ (admit_of bytes.now processors).row)
         × (struct_in count.new m.new scale.new present.new going.new end.new running.new waiting.new
-            period.new exec.new deadline.new share.new order.new awake.new arrived.new last.new rk.new rt.new wk.new wt.new slots.new ≡ admit_struct bytes.now processors) }
+        period.new exec.new deadline.new share.new order.new awake.new arrived.new last.new rk.new rt.new wk.new wt.new slots.new ≡ admit_struct bytes.now processors) }
 {
     let mut is_awake = [false; 128];
     let mut has_come = [false; 128];
@@ -114,10 +114,10 @@ pub extern "C" fn robinrow_arrive_in(
     slots: &mut [u16; 16],
 ) -> u32
     ensures is { let c = struct_in count m scale present going end running.old waiting.old
-            period.now exec.now deadline.now share.now order.now awake.old arrived.old last.old rk.old rt.old wk.old wt.old slots.old in
+        period.now exec.now deadline.now share.now order.now awake.old arrived.old last.old rk.old rt.old wk.old wt.old slots.old in
         (result ≡ arrive_number c task)
         × (struct_in count m scale present going end running.new waiting.new
-            period.now exec.now deadline.now share.now order.now awake.new arrived.new last.new rk.new rt.new wk.new wt.new slots.new
+        period.now exec.now deadline.now share.now order.now awake.new arrived.new last.new rk.new rt.new wk.new wt.new slots.new
         ≡ arrive_struct c task) }
 {
     let mut is_awake = [false; 128];
@@ -199,10 +199,10 @@ pub extern "C" fn robinrow_step_in(
     room: &mut [u8],
 ) -> u32
     ensures is { let c = struct_in count m scale present.old going.old end.old running.old waiting.old
-            period.now exec.now deadline.now share.now order.now awake.old arrived.now last.now rk.old rt.old wk.old wt.old slots.old in
+        period.now exec.now deadline.now share.now order.now awake.old arrived.now last.now rk.old rt.old wk.old wt.old slots.old in
         (result ≡ step_number c horizon room.old)
         × (struct_in count m scale present.new going.new end.new running.new waiting.new
-            period.now exec.now deadline.now share.now order.now awake.new arrived.now last.now rk.new rt.new wk.new wt.new slots.new
+        period.now exec.now deadline.now share.now order.now awake.new arrived.now last.now rk.new rt.new wk.new wt.new slots.new
         ≡ step_struct c horizon room.old)
         × (room.new ≡ step_record c horizon room.old) }
 {
@@ -290,10 +290,10 @@ pub extern "C" fn robinrow_run_in(
     records: &mut usize,
 ) -> u32
     ensures is { let c = struct_in count m scale present.old going.old end.old running.old waiting.old
-            period.now exec.now deadline.now share.now order.now awake.old arrived.now last.now rk.old rt.old wk.old wt.old slots.old in
+        period.now exec.now deadline.now share.now order.now awake.old arrived.now last.now rk.old rt.old wk.old wt.old slots.old in
         (result ≡ run_number c horizon room.old)
         × (struct_in count m scale present.new going.new end.new running.new waiting.new
-            period.now exec.now deadline.now share.now order.now awake.new arrived.now last.now rk.new rt.new wk.new wt.new slots.new
+        period.now exec.now deadline.now share.now order.now awake.new arrived.now last.now rk.new rt.new wk.new wt.new slots.new
         ≡ run_struct c horizon room.old)
         × (records.new ≡ run_count c horizon room.old)
         × (room.new ≡ run_records c horizon room.old) }
