@@ -19,9 +19,9 @@ pub returns-then-call-lt4294967296 : goal.returns-then-call-lt4294967296
 returns-then-call-lt4294967296 c =
     record {
       is = let a = c.args in (
-          refl,
-          λ z. c.arrive_in.ensures.is (call_state z a.terms a.moment a.period.now a.deadline.now a.share.now a.order.now a.awake.now a.arrived.now a.last.now a.rk.now a.rt.now a.wk.now a.wt.now a.slots.now)
-              ∙ done_arrives _ _ c.if-call-lt4294967296.true,
+        refl,
+        λ z. c.arrive_in.ensures.is (call_state z a.terms a.moment a.period.now a.deadline.now a.share.now a.order.now a.awake.now a.arrived.now a.last.now a.rk.now a.rt.now a.wk.now a.wt.now a.slots.now)
+            ∙ done_arrives _ _ c.if-call-lt4294967296.true,
       );
     }
 
@@ -39,8 +39,8 @@ pub returns : goal.returns
 returns c =
     record {
       is = let a = c.args in (
-          search rules,
-          λ z. (c.step_in.ensures.is (call_state z a.terms a.moment a.period.now a.deadline.now a.share.now a.order.now a.awake.now a.arrived.now a.last.now a.rk.now a.rt.now a.wk.now a.wt.now a.slots.now)).state
-              ∙ done_steps _ _ c.if-call-lt4294967296.false,
+        search rules,
+        λ z. (c.step_in.ensures.is (call_state z a.terms a.moment a.period.now a.deadline.now a.share.now a.order.now a.awake.now a.arrived.now a.last.now a.rk.now a.rt.now a.wk.now a.wt.now a.slots.now)).state
+            ∙ done_steps _ _ c.if-call-lt4294967296.false,
       );
     }

@@ -1,9 +1,6 @@
-use Rattle.std.proofs.Common.{refl, ◌∙◌, arith}
-use Rattle.bench_step.proofs.Doing.{doing_from, doing_taken, doing_on, doing_end}
+use Rattle.std.proofs.Common.{◌∙◌, arith}
+use Rattle.bench_step.proofs.Doing.{doing_taken, doing_on, doing_end}
 use Rattle.bench_step.proofs.held_calls.Goals as goal
-
-pub loop-i-init : goal.loop-i-init
-loop-i-init c = (λ z W T. doing_from _ _ W T, refl)
 
 pub held_call-r-requires : goal.held_call-r-requires
 held_call-r-requires c =

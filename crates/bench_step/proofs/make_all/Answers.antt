@@ -1,11 +1,8 @@
-use Rattle.std.proofs.Common.{◌≡◌, ℕ, length, get_or, refl, sym, ◌∙◌, ap, arith}
+use Rattle.std.proofs.Common.{◌≡◌, ℕ, length, get_or, sym, ◌∙◌, ap, arith}
 use Rattle.bench_step.specs.Made.{made}
 use Rattle.bench_step.proofs.Making.{made_arrives, made_steps, made_on, made_end}
 use Rattle.bench_step.proofs.make_all.Goals as goal
 use Rattle.bench_step.proofs.make_all.Goals.{then-call-lt4294967296, else-call-lt4294967296}
-
-pub loop-i-init : goal.loop-i-init
-loop-i-init c = (omega arith, refl, refl)
 
 pub loop-i-preserved : goal.loop-i-preserved
 loop-i-preserved c =

@@ -1,9 +1,6 @@
 use Rattle.text.proofs.Puts.{put_as}
-use Rattle.listing.proofs.Chunks.{turn_cursor, turn_chunk, turn_fits, pays}
+use Rattle.listing.proofs.Chunks.{turn_cursor, turn_chunk, pays}
 use Rattle.listing.proofs.next.Goals as goal
-
-pub put_part-len-requires : goal.put_part-len-requires
-put_part-len-requires c = record { fits = turn_fits c.args.c c.turn-t.result c.turn-t.ensures.moves.0 }
 
 pub returns : goal.returns
 returns c =
