@@ -5,9 +5,7 @@ use mathlib.Core.List.{List, [], ◌∷◌, map}
 use Prim.Native.Nat.{ℕ, zero, suc}
 use lib.ListN.{length, replicate, length-replicate}
 use Rattle.rules.specs.Answers.{is_done}
-use Rattle.rules.specs.State as Rules
 use Rattle.rules.specs.Calls as Rule
-use Rattle.rules.specs.Run as Runs
 use Rattle.rules.specs.Run.{Run, perform, perform_all, starting}
 use Rattle.rules.specs.Listings.{towards, steps_to}
 use Rattle.state.specs.declared.State.{State}

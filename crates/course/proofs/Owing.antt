@@ -26,7 +26,6 @@ use Rattle.rules.proofs.Refusing.{step_exact}
 use Rattle.state.specs.declared.State.{State}
 use Rattle.state.specs.View.{view}
 use Rattle.moves.specs.Whole.{Whole}
-use Rattle.admission.specs.declared.Admitted.{Admitted}
 use Rattle.calls.specs.declared.Arrived.{Arrived}
 use Rattle.admission.specs.Admit.{admit_of}
 use Rattle.calls.specs.Arrive.{arrive_of}

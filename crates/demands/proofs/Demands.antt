@@ -15,7 +15,6 @@ use Rattle.rules.specs.State as Rules
 use Rattle.rules.specs.Run as Rule
 use Rattle.rules.specs.Calls as RuleCalls
 use Rattle.demands.specs.Demands as Say
-use Rattle.calls.specs.Run as Runs
 use Rattle.rules.specs.Admission.{admit_verdict, admit}
 use Rattle.rules.specs.Answers.{number_of, is_done}
 use Rattle.rules.specs.Reasons.{AdmitReason, StepReason}

@@ -1,7 +1,6 @@
 -- Opens every definition of the output: `unfolding printing` in a theorem that holds by computation
 use Prim.Native.Nat.{ℕ}
 use Rattle.rules.proofs.Computed.{computed}
-use Rattle.ground.specs.Tests.{every}
 use Rattle.text.specs.Parts.{split_by, same, ended, lines_of}
 use Rattle.text.specs.Numbers.{spelled_after, numeral_of}
 use Rattle.text.specs.Lines.{item_of}

@@ -5,7 +5,6 @@ use mathlib.Core.Bool.{Bool, true, false}
 use mathlib.Core.List.{List, [], ◌∷◌, ◌++◌, map}
 use Prim.Native.Nat.{ℕ, zero, suc, ◌+◌, ◌*◌, ◌-◌, ◌≤◌, ◌<◌}
 use native.Mathlib.Omega.{arith}
-use lib.Dec.{eqb}
 use lib.ListN.{length, get_or}
 use Rattle.ground.specs.Tests.{Says}
 use Rattle.ground.proofs.Tests.{eqb_says}
@@ -15,7 +14,7 @@ use Rattle.rules.specs.Answers.{is_done}
 use Rattle.rules.specs.Bounds.{clock}
 use Rattle.rules.specs.Table.{Row, rows_of, table_bytes}
 use Rattle.rules.specs.Admission.{Admitted, admit_verdict, admit}
-use Rattle.rules.specs.State.{State, tick_of}
+use Rattle.rules.specs.State.{State}
 use Rattle.rules.specs.Holds.{holds}
 use Rattle.rules.specs.Record.{Record}
 use Rattle.rules.specs.Reasons.{AdmitReason, ArriveReason, StepReason, OnTick}
@@ -36,7 +35,7 @@ use Rattle.text.specs.declared.Item.TheVariants as Items
 use Rattle.text.specs.declared.Checked.{Checked}
 use Rattle.text.specs.declared.Checked.TheVariants.{Good, Broken}
 use Rattle.text.specs.Form.{form_of}
-use Rattle.text.specs.Meaning.{items_of, processors_in, rows_in, row_lines_in, row_line_of, Turn, turns_in}
+use Rattle.text.specs.Meaning.{items_of, processors_in, rows_in, row_lines_in, row_line_of, turns_in}
 use Rattle.text.proofs.Tables.{text_rows_fit}
 use Rattle.output.specs.Course as Course
 use Rattle.output.specs.Course.{Entry, scale_entry, record_entry, refused_entry, refusal, is_at, reached, reaching, turns_course, admission_course, course_by, course_of}

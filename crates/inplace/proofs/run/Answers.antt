@@ -9,7 +9,7 @@ use Rattle.moves.proofs.Moving.{stop_fits}
 use Rattle.refusals.proofs.Moves.{step_13, step_by, step_ahead}
 use Rattle.inplace.proofs.Answering.{run_no, run_yes}
 use Rattle.inplace.proofs.RunSteps.{goes_more}
-use Rattle.inplace.proofs.RunLoop.{going_from, going_length, going_room, going_on, going_end}
+use Rattle.inplace.proofs.RunLoop.{going_room, going_on, going_end}
 use Rattle.inplace.proofs.run.Goals as goal
 
 pub returns-then-not-check : goal.returns-then-not-check
