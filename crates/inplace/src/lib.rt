@@ -144,6 +144,7 @@ pub fn step(
 }
 
 // Is there another step: room for a record, and a horizon ahead?
+#[tactic(auto, using(crate::proofs::RunSteps::goes_yes, crate::proofs::RunSteps::goes_no))]
 fn goes_on(left: usize, present: Instant, stop: Instant) -> bool
     ensures is { result ≡ goes_on left present.0 stop.0 }
 {
