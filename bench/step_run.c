@@ -14,8 +14,8 @@
 // bench_step
 void held_calls(size_t, size_t, uint64_t, uint64_t *, bool *, uint64_t *, size_t *, size_t *, const uint64_t *, size_t, const uint32_t *, const uint32_t *,
     const uint64_t *, const uint16_t *, bool *, bool *, uint64_t *, uint64_t *, uint16_t *, uint64_t *, uint16_t *, uint16_t *, uint8_t *, size_t);
-bool held_check(size_t, size_t, uint64_t, uint64_t, bool, uint64_t, size_t, size_t, const uint32_t *, const uint32_t *, const uint32_t *, const uint64_t *,
-    const uint16_t *, const bool *, const bool *, const uint64_t *, const uint64_t *, const uint16_t *, const uint64_t *, const uint16_t *, const uint16_t *);
+bool held_check_in_place(size_t, size_t, uint64_t, uint64_t, bool, uint64_t, size_t, size_t, const uint32_t *, const uint32_t *, const uint32_t *,
+    const uint64_t *, const uint16_t *, bool *, const bool *, const uint64_t *, uint64_t *, uint16_t *, uint64_t *, uint16_t *, uint16_t *);
 uint64_t public_calls(const uint8_t *, size_t, size_t, const uint64_t *, size_t, uint8_t *, size_t);
 
 enum { CALLS = 20000, REPEATS = 7, SEEN = 64, RECORDS = 1000 };
@@ -92,7 +92,7 @@ static double one_check(const Scenario *c) {
         double from = nanoseconds();
         for (int turn = 0; turn < 100; turn++)
             for (size_t j = 0; j < n; j++, checks++)
-                good += held_check(seen[j].count, seen[j].m, seen[j].scale, seen[j].now, seen[j].going, seen[j].end, seen[j].running_len,
+                good += held_check_in_place(seen[j].count, seen[j].m, seen[j].scale, seen[j].now, seen[j].going, seen[j].end, seen[j].running_len,
                     seen[j].waiting_len, COLUMNS(&seen[j]), (bool *)seen[j].awake, (bool *)seen[j].arrived, seen[j].last, QUEUES(&seen[j]));
         double took = (nanoseconds() - from) / (100.0 * (double)n);
         if (i == 0 || took < least) least = took;

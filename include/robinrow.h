@@ -57,11 +57,11 @@
  * STACK. The most bytes that a call took, the inline function (gcc -O2) and the library together, by painting (tests/abi/stack):
  *
  *                admit   arrive     step      run
- *     x86-64       304    1,248    1,328    1,344
+ *     x86-64       304    1,160    1,160    1,192
  *     aarch64      344    1,216    1,248    1,312
  *     riscv64      320    1,360    1,376    1,424
  *
- * The line of x86-64 is measured with rattle-kit-13f, the others were with rattle-kit-5b. robinrow_peek takes what robinrow_step takes,
+ * The line of x86-64 is measured with rattle-kit-13f, the others were with rattle-kit-5b, on the library as it was then. robinrow_peek takes what robinrow_step takes,
  * within 16 bytes: its copy is in the state that the caller lends. Nothing recurses.
  *
  * BUFFERS. The struct needs the alignment that C gives it, the table and the room need none. Where a length is 0 the pointer is

@@ -1,4 +1,4 @@
+pub mod Reading
 pub mod Sizes
 pub mod Tables
-pub mod Reading
 pub mod Cleared

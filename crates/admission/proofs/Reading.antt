@@ -1,24 +1,21 @@
 -- The columns hold the rows of the bytes, and the verdict goes by the first test that fails
-use Rattle.std.specs.Prelude.{if◌then◌else◌}
+use Rattle.std.specs.Prelude.{if◌then◌else◌, Err}
 use mathlib.Core.Path.{◌≡◌, refl, sym, ◌∙◌, ap, subst}
-use mathlib.Core.Bool.{Bool, true, false, ◌&&◌}
+use mathlib.Core.Bool.{Bool, true, false}
 use mathlib.Core.List.{List, map}
-use Prim.Native.Nat.{ℕ, ◌+◌, ◌*◌, ◌/◌, ◌%◌, ◌≤◌, ◌<◌}
-use native.Mathlib.Nat.{mul-div_cancel_left, div-add-mod}
+use Prim.Native.Nat.{ℕ, ◌+◌, ◌*◌, ◌/◌, ◌≤◌, ◌<◌}
+use native.Mathlib.Nat.{mul-div_cancel_left}
 use native.Mathlib.Omega.{arith}
-use lib.Dec.{leb, eqb}
 use lib.ListN.{length, get_or, replicate}
 use lib.Seq.{sets}
 use Rattle.ground.proofs.Ranges.{length_up, at_up}
 use Rattle.ground.specs.Sums.{up_from}
-use Rattle.ground.proofs.Tests.{leb_says, eqb_says, and_says, of_true}
-use Rattle.rules.specs.declared.Answer.TheVariants.{Processors, TableLength}
-use Rattle.rules.specs.Answers.{is_done}
+use Rattle.rules.specs.Answers.{Done, Processors, TableLength}
 use Rattle.rules.specs.Table.{Row, word_at, row_at, rows_of}
-use Rattle.rules.specs.Admission.{Verdict, plain, processors_ok, length_ok, fault_from, size_verdict, rows_verdict, admit_verdict}
-use Rattle.table.specs.Rows.{row_in, rows_held, column_of, padded, Filled}
-use Rattle.table.specs.Tabled.{table_from, blank_table, refusal, tabled_by, tabled_of}
-use Rattle.table.proofs.Columns.{held_same}
+use Rattle.rules.specs.Admission.{Verdict, plain, processors_ok, length_ok, fault_from, size_verdict, or_else, rows_verdict, admit_verdict}
+use Rattle.table.specs.declared.Fault.{Fault}
+use Rattle.table.specs.Rows.{row_in, rows_held, column_of, padded, Filled, verdict_in}
+use Rattle.table.proofs.Columning.{held_same}
 use Rattle.table.proofs.Padding.{padded_store, padded_at, padded_filled}
 
 -- THE ROWS
@@ -67,18 +64,15 @@ read_as bytes n ps es ds h l p e d =
     }
 
 -- THE VERDICT
--- a verdict that is not Done hands back the blank table
-pub refusal_is : (v : Verdict) (m : ℕ) (rows : List Row) → is_done v.answer ≡ false → refusal v.answer v.row ≡ tabled_by v m rows
-refusal_is v m rows e = sym (ap (λ (t : Bool). record { answer = v.answer; row = v.row; table = if t then table_from m rows else blank_table }) e)
-
 -- a faulty row comes first
-pub rows_fault : (m : ℕ) (rows : List Row) → is_done (fault_from 1 rows).answer ≡ false → rows_verdict m rows ≡ fault_from 1 rows
+pub rows_fault : (m : ℕ) (rows : List Row) (f : Fault) → verdict_in (Err f) ≡ fault_from 1 rows → verdict_in (Err f) ≡ rows_verdict m rows
 unfolding rows_verdict
-rows_fault m rows e = ap (λ (t : Bool). if t then size_verdict m rows else fault_from 1 rows) e
+rows_fault m rows f e = ap (λ (v : Verdict). or_else v (size_verdict m rows)) e
 
-pub rows_sized : (m : ℕ) (rows : List Row) → is_done (fault_from 1 rows).answer ≡ true → rows_verdict m rows ≡ size_verdict m rows
+-- there is none: the size decides
+pub rows_sized : (m : ℕ) (rows : List Row) → plain Done ≡ fault_from 1 rows → size_verdict m rows ≡ rows_verdict m rows
 unfolding rows_verdict
-rows_sized m rows e = ap (λ (t : Bool). if t then size_verdict m rows else fault_from 1 rows) e
+rows_sized m rows e = ap (λ (v : Verdict). or_else v (size_verdict m rows)) e
 
 verdict_by : (bytes : List ℕ) (m : ℕ) (a b : Bool) → processors_ok m ≡ a → length_ok (length bytes) ≡ b
     → admit_verdict bytes m ≡ (if a then (if b then rows_verdict m (rows_of bytes) else plain TableLength) else plain Processors)
@@ -88,28 +82,11 @@ verdict_by bytes m a b p q =
     ∙ ap (λ (t : Bool). if a then (if t then rows_verdict m (rows_of bytes) else plain TableLength) else plain Processors) q
 
 -- 1, then 2, then the rows
-pub by_processors : (bytes : List ℕ) (m : ℕ) → processors_ok m ≡ false → refusal Processors 0 ≡ tabled_of bytes m
-unfolding tabled_of
-by_processors bytes m p = ap (λ (v : Verdict). tabled_by v m (rows_of bytes)) (sym (verdict_by bytes m false (length_ok (length bytes)) p refl))
+pub by_processors : (bytes : List ℕ) (m : ℕ) → processors_ok m ≡ false → plain Processors ≡ admit_verdict bytes m
+by_processors bytes m p = sym (verdict_by bytes m false (length_ok (length bytes)) p refl)
 
-pub by_length : (bytes : List ℕ) (m : ℕ) → processors_ok m ≡ true → length_ok (length bytes) ≡ false → refusal TableLength 0 ≡ tabled_of bytes m
-unfolding tabled_of
-by_length bytes m p q = ap (λ (v : Verdict). tabled_by v m (rows_of bytes)) (sym (verdict_by bytes m true false p q))
+pub by_length : (bytes : List ℕ) (m : ℕ) → processors_ok m ≡ true → length_ok (length bytes) ≡ false → plain TableLength ≡ admit_verdict bytes m
+by_length bytes m p q = sym (verdict_by bytes m true false p q)
 
-pub by_rows : (bytes : List ℕ) (m : ℕ) → processors_ok m ≡ true → length_ok (length bytes) ≡ true → tabled_by (rows_verdict m (rows_of bytes)) m (rows_of bytes) ≡ tabled_of bytes m
-unfolding tabled_of
-by_rows bytes m p q = ap (λ (v : Verdict). tabled_by v m (rows_of bytes)) (sym (verdict_by bytes m true true p q))
-
--- what the first two tests say
-pub processors_known : (m : ℕ) → processors_ok m ≡ true → (1 ≤ m) × (m ≤ 16)
-processors_known m e = of_true (processors_ok m) (and_says (1 ≤ m) (m ≤ 16) (leb 1 m) (leb m 16) (leb_says 1 m) (leb_says m 16)) e
-
-pub length_known : (n : ℕ) → length_ok n ≡ true → (1 ≤ n / 12) × (n / 12 ≤ 128) × (n ≡ 12 * (n / 12))
-length_known n e =
-    let s =
-    of_true (length_ok n)
-    (and_says (1 ≤ n) ((n ≤ 1536) × (n % 12 ≡ 0)) (leb 1 n) (leb n 1536 && eqb (n % 12) 0) (leb_says 1 n)
-    (and_says (n ≤ 1536) (n % 12 ≡ 0) (leb n 1536) (eqb (n % 12) 0) (leb_says n 1536) (eqb_says (n % 12) 0)))
-    e in
-    let d = div-add-mod n 12 in
-    (omega arith, omega arith, omega arith)
+pub by_rows : (bytes : List ℕ) (m : ℕ) → processors_ok m ≡ true → length_ok (length bytes) ≡ true → rows_verdict m (rows_of bytes) ≡ admit_verdict bytes m
+by_rows bytes m p q = sym (verdict_by bytes m true true p q)

@@ -1,20 +1,28 @@
--- ADMISSION INTO LENT ARRAYS
-use Rattle.std.specs.Prelude.{Bool, false, List, ℕ}
-use Rattle.admission.specs.declared.Outcome.{Outcome}
-use Rattle.moves.specs.declared.Terms.{Terms}
-use Rattle.moves.specs.declared.Moment.{Moment}
-use Rattle.moves.specs.Lent.{state_in}
+-- ADMISSION INTO LENT PLACES
+use Rattle.std.specs.Prelude.{Bool, false, List, ℕ, Result, ⊤}
+use Rattle.queue.specs.Lent.{queue_in}
+use Rattle.table.specs.declared.Fault.{Fault}
+use Rattle.table.specs.declared.Sheet.{Sheet}
+use Rattle.state.specs.declared.Crew.{Crew}
 use Rattle.admission.specs.declared.Admitted.{Admitted}
+use Rattle.admission.specs.Tables.{tabled_in}
 
--- the numbers of the table
-abbrev pub terms_of : Outcome → Terms
-terms_of r = record { count = r.count; m = r.m; scale = r.scale }
-
--- "at instant 0, no task awake, no plane open"
-abbrev pub start : Moment
-start = record { now = record { 0 = 0 }; going = false; end_tick = 0; lengths = record { running = 0; waiting = 0 } }
-
--- the answer, the row, and the state at instant 0 of these numbers and arrays
-abbrev pub admitted_in : Outcome → List ℕ → List ℕ → List ℕ → List ℕ → List ℕ → List Bool → List Bool → List ℕ → List ℕ → List ℕ → List ℕ → List ℕ → List ℕ → Admitted
-admitted_in r period exec deadline share order awake arrived last rk rt wk wt slots =
-    record { answer = r.answer; row = r.row; state = state_in (terms_of r) start period exec deadline share order awake arrived last rk rt wk wt slots }
+-- the answer, the row, and the state "at instant 0, no task awake, no plane open" that lies there
+abbrev pub admitted_in : Result ⊤ Fault → Sheet → List Bool → List Bool → List ℕ → Crew → Admitted
+admitted_in r sheet awake arrived last crew =
+    let t = tabled_in r sheet in
+    record {
+      answer = t.answer;
+      row = t.row;
+      state =
+          record {
+            table = t.table;
+            now = record { 0 = 0 };
+            going = false;
+            end = 0;
+            jobs = record { awake = awake; arrived = arrived; last = last };
+            running = queue_in crew.running;
+            waiting = queue_in crew.waiting;
+            slots = crew.slots.now;
+          };
+    }

@@ -1,154 +1,99 @@
-// Admission: table bytes and m give a state at instant 0, in lent arrays or by value. Neither call asks anything of its arguments.
+// Admission: table bytes and m give a state at instant 0, in lent places or by value. Neither call asks anything of its arguments.
 #![tactic(auto)]
 
-ghost use Rattle.std.specs.Prelude.{◌≡◌, false, ◌*◌, ◌≤◌, length, replicate};
+ghost use Rattle.std.specs.Prelude.{◌≡◌, false, ◌*◌, ◌≤◌, length, replicate, Err, MatchResult, OnOk};
 ghost use Rattle.rules.specs.Table.{rows_of};
-ghost use Rattle.rules.specs.Admission.{rows_verdict, size_verdict};
-ghost use Rattle.table.specs.Rows.{rows_held};
-ghost use Rattle.table.specs.Tabled.{refusal, tabled_by, tabled_of};
-ghost use Rattle.admission.specs.Tables.{tabled_in, Rowed};
+ghost use Rattle.rules.specs.Admission.{rows_verdict, size_verdict, admit_verdict};
+ghost use Rattle.table.specs.Rows.{rows_on, verdict_in, Faultless};
+ghost use Rattle.table.specs.Tabled.{table_from, tabled_of};
+ghost use Rattle.table.specs.Lent.{table_on, SameSheet};
+ghost use Rattle.state.specs.Lent.{SameCrew};
+ghost use Rattle.admission.specs.Tables.{tabled_in, Weighed};
 ghost use Rattle.admission.specs.Admit.{admit_of};
 ghost use Rattle.admission.specs.Lent.{admitted_in};
 
 use ground::Instant;
-use queue::Queue;
-use rules::Answer;
-use state::{Jobs, State};
-use table::Table;
+use queue::{Lane, Queue};
+use rules::Refusal;
+use state::{Crew, Jobs, State};
+use table::{Fault, Rows, Sheet, Table};
 
-// What admission answers where the columns are lent: the number, the row that it names (from 1; 0 for none), and the table's numbers.
-#[derive(Clone, Copy)]
-pub struct Outcome {
-    pub answer: Answer,
-    pub row: usize,
-    pub count: usize,
-    pub m: usize,
-    pub scale: u64,
-}
-
-// What admission answers: the number, the row that it names or 0, the state.
+// What admission answers: the answer, the row that it names or 0, the state.
 #[derive(Clone, Copy)]
 pub struct Admitted {
-    pub answer: Answer,
+    pub answer: Result<(), Refusal>,
     pub row: usize,
     pub state: State,
 }
 
 // THE TABLE
 
-// A refusal: every column is cleared.
-fn refused(
-    answer: Answer,
-    row: usize,
-    period: &mut [u32; 128],
-    exec: &mut [u32; 128],
-    deadline: &mut [u32; 128],
-    share: &mut [u64; 128],
-    order: &mut [u16; 128],
-) -> Outcome
-    ensures is { tabled_in result period.new exec.new deadline.new share.new order.new ≡ refusal answer row }
+// Rows without fault: 5, 6, or the scale, with the shares filled in.
+fn weigh(rows: Rows, m: usize, share: &mut [u64; 128]) -> Result<u64, Fault>
+    requires inside { (m ≤ 16) × (rows.count ≤ 128) × Faultless (rows_on rows) }
+    ensures is { let given = rows_on rows.entry in
+        MatchResult result (λ scale. Weighed m given scale share.new) (λ fault. verdict_in (Err fault) ≡ size_verdict m given) }
 {
-    *period = [0; 128];
-    *exec = [0; 128];
-    *deadline = [0; 128];
-    *share = [0; 128];
-    *order = [0; 128];
-    Outcome {
-        answer: answer,
-        row: row,
-        count: 0,
-        m: 0,
-        scale: 0,
+    let Some(scale) = rows.scale() else {
+        return Err(Fault::from(Refusal::Scale));
+    };
+    rows.shares(scale, share);
+    if (m as u64) * scale < table::share_sum(share, rows.count) {
+        return Err(Fault::from(Refusal::Shares));
     }
+    Ok(scale)
 }
 
-// Rows without fault: 5, 6, or the table.
-fn sized(
-    count: usize,
-    m: usize,
-    period: &mut [u32; 128],
-    exec: &mut [u32; 128],
-    deadline: &mut [u32; 128],
-    share: &mut [u64; 128],
-    order: &mut [u16; 128],
-) -> Outcome
-    requires inside { (m ≤ 16) × (count ≤ 128) × Rowed period.old exec.old deadline.old count }
-    ensures is { let rows = rows_held period.old exec.old deadline.old count in
-        tabled_in result period.new exec.new deadline.new share.new order.new ≡ tabled_by (size_verdict m rows) m rows }
-{
-    let l = table::scale(period, deadline, count);
-    if l == 0 {
-        return refused(Answer::Scale, 0, period, exec, deadline, share, order);
-    }
-    table::shares(period, exec, deadline, l, share, count);
-    if (m as u64) * l < table::share_sum(share, count) {
-        return refused(Answer::Shares, 0, period, exec, deadline, share, order);
-    }
-    table::fall(share, order, count);
-    Outcome {
-        answer: Answer::Done,
-        row: 0,
-        count: count,
-        m: m,
-        scale: l,
-    }
-}
-
-// The rows of a table of whole rows: 3 and 4, then 5, 6, or the table.
-fn read(
-    bytes: &[u8],
-    count: usize,
-    m: usize,
-    period: &mut [u32; 128],
-    exec: &mut [u32; 128],
-    deadline: &mut [u32; 128],
-    share: &mut [u64; 128],
-    order: &mut [u16; 128],
-) -> Outcome
+// Whole rows: 3 and 4, then 5, 6, or the table.
+fn read(bytes: &[u8], count: usize, m: usize, sheet: &mut Sheet) -> Result<(), Fault>
     requires inside { (m ≤ 16) × (count ≤ 128) × (length bytes.now ≡ 12 * count) }
-    ensures is { tabled_in result period.new exec.new deadline.new share.new order.new ≡ tabled_by (rows_verdict m (rows_of bytes.now)) m (rows_of bytes.now) }
+    ensures same { SameSheet sheet.old sheet.new }
+    ensures is { verdict_in result ≡ rows_verdict m (rows_of bytes.now) }
+    ensures made { OnOk result (table_on sheet.new ≡ table_from m (rows_of bytes.now)) }
 {
-    table::column(bytes, 0, period, count);
-    table::column(bytes, 4, exec, count);
-    table::column(bytes, 8, deadline, count);
-    let found = table::first_fault(period, exec, deadline, count);
-    let a = found.answer;
-    let row = found.row;
-    if !table::is_done(a) {
-        return refused(a, row, period, exec, deadline, share, order);
-    }
-    sized(count, m, period, exec, deadline, share, order)
+    table::column(bytes, 0, sheet.period, count);
+    table::column(bytes, 4, sheet.exec, count);
+    table::column(bytes, 8, sheet.deadline, count);
+    let rows = Rows {
+        period: sheet.period,
+        exec: sheet.exec,
+        deadline: sheet.deadline,
+        count,
+    };
+    rows.first_fault()?;
+    let scale = weigh(rows, m, sheet.share)?;
+    table::fall(sheet.share, sheet.order, count);
+    sheet.count = count;
+    sheet.m = m;
+    sheet.scale = scale;
+    Ok(())
 }
 
-// Admission into lent columns, whatever they hold: table bytes and m give the table, or the refusal's number and row and zeros.
-fn admit_table(
-    bytes: &[u8],
-    m: usize,
-    period: &mut [u32; 128],
-    exec: &mut [u32; 128],
-    deadline: &mut [u32; 128],
-    share: &mut [u64; 128],
-    order: &mut [u16; 128],
-) -> Outcome
-    ensures is { tabled_in result period.new exec.new deadline.new share.new order.new ≡ tabled_of bytes.now m }
+// The table, or the refusal with some of the columns filled.
+fn fill(bytes: &[u8], m: usize, sheet: &mut Sheet) -> Result<(), Fault>
+    ensures same { SameSheet sheet.old sheet.new }
+    ensures is { verdict_in result ≡ admit_verdict bytes.now m }
+    ensures made { OnOk result (table_on sheet.new ≡ table_from m (rows_of bytes.now)) }
 {
     if !table::processors_ok(m) {
-        return refused(Answer::Processors, 0, period, exec, deadline, share, order);
+        return Err(Fault::from(Refusal::Processors));
     }
-    let n = bytes.len();
-    if !table::length_ok(n) {
-        return refused(Answer::TableLength, 0, period, exec, deadline, share, order);
+    if !table::length_ok(bytes.len()) {
+        return Err(Fault::from(Refusal::TableLength));
     }
-    read(
-        bytes,
-        n / rules::ROW_SIZE,
-        m,
-        period,
-        exec,
-        deadline,
-        share,
-        order,
-    )
+    read(bytes, bytes.len() / rules::ROW_SIZE, m, sheet)
+}
+
+// Admission onto a sheet, whatever it holds: table bytes and m give the table, or the refusal and zeros.
+fn admit_table(bytes: &[u8], m: usize, sheet: &mut Sheet) -> Result<(), Fault>
+    ensures same { SameSheet sheet.old sheet.new }
+    ensures is { tabled_in result sheet.new ≡ tabled_of bytes.now m }
+{
+    if let Err(fault) = fill(bytes, m, sheet) {
+        sheet.clear();
+        return Err(fault);
+    }
+    Ok(())
 }
 
 // THE STATE
@@ -162,31 +107,34 @@ fn clear_jobs(awake: &mut [bool; 128], arrived: &mut [bool; 128], last: &mut [u6
     *last = [0; 128];
 }
 
-// In place, whatever the arrays hold: the state at instant 0, no task awake, no plane open; a refusal gives the blank state, every place 0.
+// In place, whatever lies there: the state at instant 0, no task awake, no plane open; a refusal gives the blank state, every place 0.
 pub fn admit_lent(
     bytes: &[u8],
     m: usize,
-    period: &mut [u32; 128],
-    exec: &mut [u32; 128],
-    deadline: &mut [u32; 128],
-    share: &mut [u64; 128],
-    order: &mut [u16; 128],
+    sheet: &mut Sheet,
     awake: &mut [bool; 128],
     arrived: &mut [bool; 128],
     last: &mut [u64; 128],
-    rk: &mut [u64; 128],
-    rt: &mut [u16; 128],
-    wk: &mut [u64; 128],
-    wt: &mut [u16; 128],
-    slots: &mut [u16; 16],
-) -> Outcome
-    ensures is { admitted_in result period.new exec.new deadline.new share.new order.new awake.new arrived.new last.new rk.new rt.new wk.new wt.new slots.new ≡ admit_of bytes.now m }
+    crew: &mut Crew,
+) -> Result<(), Fault>
+    ensures same { SameSheet sheet.old sheet.new × SameCrew crew.old crew.new }
+    ensures is { admitted_in result sheet.new awake.new arrived.new last.new crew.new ≡ admit_of bytes.now m }
 {
     clear_jobs(awake, arrived, last);
-    queue::clear(rk, rt);
-    queue::clear(wk, wt);
-    plane::clear_slots(slots);
-    admit_table(bytes, m, period, exec, deadline, share, order)
+    crew.running.clear();
+    crew.waiting.clear();
+    plane::clear_slots(crew.slots);
+    admit_table(bytes, m, sheet)
+}
+
+// The answer, and the row that it names, or 0.
+fn answer_and_row(found: Result<(), Fault>) -> (Result<(), Refusal>, usize)
+    ensures is { (result.0 ≡ (verdict_in found).answer) × (result.1 ≡ (verdict_in found).row) }
+{
+    match found {
+        Ok(()) => (Ok(()), 0),
+        Err(fault) => (Err(fault.refusal), fault.row),
+    }
 }
 
 // By value.
@@ -206,63 +154,75 @@ pub fn admit(bytes: &[u8], m: usize) -> Admitted
     let mut wk = [0u64; 128];
     let mut wt = [0u16; 128];
     let mut slots = [0u16; 16];
-    let r = admit_lent(
+    let mut sheet = Sheet {
+        period: &mut period,
+        exec: &mut exec,
+        deadline: &mut deadline,
+        share: &mut share,
+        order: &mut order,
+        count: 0,
+        m: 0,
+        scale: 0,
+    };
+    let mut crew = Crew {
+        running: Lane {
+            keys: &mut rk,
+            tasks: &mut rt,
+            len: 0,
+        },
+        waiting: Lane {
+            keys: &mut wk,
+            tasks: &mut wt,
+            len: 0,
+        },
+        slots: &mut slots,
+    };
+    let found = admit_lent(
         bytes,
         m,
-        &mut period,
-        &mut exec,
-        &mut deadline,
-        &mut share,
-        &mut order,
+        &mut sheet,
         &mut awake,
         &mut arrived,
         &mut last,
-        &mut rk,
-        &mut rt,
-        &mut wk,
-        &mut wt,
-        &mut slots,
+        &mut crew,
     );
+    let count = sheet.count;
+    let processors = sheet.m;
+    let scale = sheet.scale;
+    let running = crew.running.len;
+    let waiting = crew.waiting.len;
     let table = Table {
-        period: period,
-        exec: exec,
-        deadline: deadline,
-        share: share,
-        order: order,
-        count: r.count,
-        m: r.m,
-        scale: r.scale,
-    };
-    let present = Instant(0);
-    let jobs = Jobs {
-        awake: awake,
-        arrived: arrived,
-        last: last,
-    };
-    let running = Queue {
-        keys: rk,
-        tasks: rt,
-        len: 0,
-    };
-    let waiting = Queue {
-        keys: wk,
-        tasks: wt,
-        len: 0,
+        period,
+        exec,
+        deadline,
+        share,
+        order,
+        count,
+        m: processors,
+        scale,
     };
     let state = State {
-        table: table,
-        now: present,
+        table,
+        now: Instant(0),
         going: false,
         end: 0,
-        jobs: jobs,
-        running: running,
-        waiting: waiting,
-        slots: slots,
+        jobs: Jobs {
+            awake,
+            arrived,
+            last,
+        },
+        running: Queue {
+            keys: rk,
+            tasks: rt,
+            len: running,
+        },
+        waiting: Queue {
+            keys: wk,
+            tasks: wt,
+            len: waiting,
+        },
+        slots,
     };
-    let answer = r.answer;
-    Admitted {
-        answer: answer,
-        row: r.row,
-        state: state,
-    }
+    let (answer, row) = answer_and_row(found);
+    Admitted { answer, row, state }
 }

@@ -16,6 +16,7 @@ use Rattle.state.specs.Machine.{moved_of, arrived_of}
 use Rattle.state.specs.View.{view}
 use Rattle.moves.specs.Whole.{Whole}
 use Rattle.moves.proofs.Keeping.{step_whole, arrive_whole}
+use Rattle.inplace.proofs.Table.{arrived_table, moved_table}
 use Rattle.bench_step.specs.Held.{Taken, done_of, AllTaken, done_all}
 
 module _ (s : State) (call : ℕ) where
@@ -53,15 +54,24 @@ module _ (s : State) (call : ℕ) where
       go true T = (arrive_whole s (call - 1) W T.1).whole
       go false T = (step_whole s (call - 4294967296) W T.0 T.1).whole
 
+  done_table : (done_of s call).table ≡ s.table
+  unfolding done_of
+  done_table = go (ltb call 4294967296)
+    where
+      go : (b : Bool) → (if b then arrived_of s (call - 1) else (moved_of s (call - 4294967296)).state).table ≡ s.table
+      go true = arrived_table s (call - 1)
+      go false = moved_table s (call - 4294967296)
+
 -- what is done up to place i, and what is left
 pub record Doing (s₀ : State) (list : List ℕ) (s : State) (i : ℕ) : Type 0 where
   pub whole : Whole s
+  pub table : s.table ≡ s₀.table
   pub within : i ≤ length list
   pub taken : AllTaken s (drop i list)
   pub same : done_all s (drop i list) ≡ done_all s₀ list
 
 pub doing_from : (s : State) (list : List ℕ) → Whole s → AllTaken s list → Doing s list s 0
-doing_from s list W T = record { whole = W; within = omega arith; taken = T; same = refl }
+doing_from s list W T = record { whole = W; table = refl; within = omega arith; taken = T; same = refl }
 
 module _ (s₀ : State) (list : List ℕ) (s : State) (i : ℕ) (D : Doing s₀ list s i) where
   next : i < length list → AllTaken s (get_or list i 0 ∷ drop (suc i) list)
@@ -77,6 +87,7 @@ module _ (s₀ : State) (list : List ℕ) (s : State) (i : ℕ) (D : Doing s₀ 
       rw (e, add-one i)
       (record {
         whole = done_whole s (get_or list i 0) D.whole (next h).0;
+        table = done_table s (get_or list i 0) ∙ D.table;
         within = omega arith;
         taken = (next h).1;
         same = sym (ap (done_all s) (drop-cons list i 0 h)) ∙ D.same;

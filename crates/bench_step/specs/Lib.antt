@@ -1,3 +1,3 @@
-pub mod Moments
+pub mod Lent
 pub mod Held
 pub mod Made

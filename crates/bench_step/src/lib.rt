@@ -2,64 +2,45 @@
 // alone, the public calls one after another, and a run as text.
 #![tactic(auto)]
 
-ghost use Rattle.std.specs.Prelude.{◌≡◌, ℕ, ◌*◌, ◌<◌, ◌≤◌, length};
+ghost use Rattle.std.specs.Prelude.{◌≡◌, List, ℕ, ◌*◌, ◌<◌, ◌≤◌, length};
+ghost use Rattle.state.specs.Lent.{state_with, SamePlaces};
 ghost use Rattle.moves.specs.Whole.{Whole};
-ghost use Rattle.moves.specs.Lent.{state_in};
 ghost use Rattle.together.specs.Holds.{holds_of};
 ghost use Rattle.admission.specs.Admit.{admit_of};
-ghost use Rattle.bench_step.specs.Moments.{terms_of, moment_of, in_call, by_call};
+ghost use Rattle.bench_step.specs.Lent.{state_at};
 ghost use Rattle.bench_step.specs.Held.{Taken, done_of, AllTaken, done_all};
 ghost use Rattle.bench_step.specs.Made.{made_all, EndsAt};
 ghost use Rattle.text.specs.Puts.{Put};
 ghost use Rattle.print.specs.Printed.{record_lines};
 
 use ground::Instant;
-use moves::{Moment, Terms};
-use plane::Lengths;
-use state::State;
+use queue::Lane;
+use state::{Crew, InPlace, State};
+use table::{Columns, Rows};
 
 // One call in place: an arrival of this task, or from 4,294,967,296 on a step to the horizon that lies above.
 fn held_call(
-    terms: Terms,
-    moment: Moment,
-    call: u64,
-    period: &[u32; 128],
-    deadline: &[u32; 128],
-    share: &[u64; 128],
-    order: &[u16; 128],
-    awake: &mut [bool; 128],
+    s: &mut InPlace,
     arrived: &mut [bool; 128],
     last: &mut [u64; 128],
-    rk: &mut [u64; 128],
-    rt: &mut [u16; 128],
-    wk: &mut [u64; 128],
-    wt: &mut [u16; 128],
-    slots: &mut [u16; 16],
+    call: u64,
     room: &mut [u8],
-) -> Moment
-    requires taken { (48 ≤ length room.old) × in_call (λ s. Whole s × Taken s call) terms moment
-        period.now deadline.now share.now order.now awake.old arrived.old last.old rk.old rt.old wk.old wt.old slots.old }
-    ensures is { (length room.new ≡ length room.old) × by_call (λ s k. k ≡ done_of s call) terms moment result
-        period.now deadline.now share.now order.now
-        awake.old arrived.old last.old rk.old rt.old wk.old wt.old slots.old
-        awake.new arrived.new last.new rk.new rt.new wk.new wt.new slots.new }
+)
+    requires taken { (48 ≤ length room.old) × ((exec : List ℕ) × (let k = state_with s.old exec arrived.old last.old in Whole k × Taken k call)) }
+    ensures same { SamePlaces s.old s.new }
+    ensures long { length room.new ≡ length room.old }
+    ensures is { (exec : List ℕ) → state_with s.new exec arrived.new last.new ≡ done_of (state_with s.old exec arrived.old last.old) call }
 {
     if call < 4294967296 {
-        let i = (call - 1) as usize;
-        return moves::arrive_in(
-            terms, moment, i, share, awake, arrived, last, rk, rt, wk, wt, slots,
-        );
+        moves::arrive_in(s, arrived, last, (call - 1) as usize);
+    } else {
+        moves::step_in(s, last, call - 4294967296, room);
     }
-    let horizon = call - 4294967296;
-    moves::step_in(
-        terms, moment, horizon, period, deadline, share, order, awake, last, rk, rt, wk, wt, slots,
-        room,
-    )
 }
 
-// Calls in place, one after another.
+// Calls in place, one after another, whatever the executions are.
 #[unsafe(no_mangle)]
-pub extern "C" fn held_calls(
+pub extern "C" fn held_calls<'a>(
     count: usize,
     m: usize,
     scale: u64,
@@ -69,71 +50,138 @@ pub extern "C" fn held_calls(
     running: &mut usize,
     waiting: &mut usize,
     list: &[u64],
-    period: &[u32; 128],
-    deadline: &[u32; 128],
-    share: &[u64; 128],
-    order: &[u16; 128],
-    awake: &mut [bool; 128],
+    period: &'a [u32; 128],
+    deadline: &'a [u32; 128],
+    share: &'a [u64; 128],
+    order: &'a [u16; 128],
+    awake: &'a mut [bool; 128],
     arrived: &mut [bool; 128],
     last: &mut [u64; 128],
-    rk: &mut [u64; 128],
-    rt: &mut [u16; 128],
-    wk: &mut [u64; 128],
-    wt: &mut [u16; 128],
-    slots: &mut [u16; 16],
+    rk: &'a mut [u64; 128],
+    rt: &'a mut [u16; 128],
+    wk: &'a mut [u64; 128],
+    wt: &'a mut [u16; 128],
+    slots: &'a mut [u16; 16],
     room: &mut [u8],
 )
-    requires taken { (48 ≤ length room.old) × in_call (λ s. Whole s × AllTaken s list.now) (terms_of count m scale)
-        (moment_of present.old going.old end.old running.old waiting.old)
-        period.now deadline.now share.now order.now awake.old arrived.old last.old rk.old rt.old wk.old wt.old slots.old }
-    ensures is { by_call (λ s k. (Whole s → AllTaken s list.now → k ≡ done_all s list.now)) (terms_of count m scale)
-        (moment_of present.old going.old end.old running.old waiting.old) (moment_of present.new going.new end.new running.new waiting.new)
-        period.now deadline.now share.now order.now
-        awake.old arrived.old last.old rk.old rt.old wk.old wt.old slots.old
-        awake.new arrived.new last.new rk.new rt.new wk.new wt.new slots.new }
+    requires taken { (48 ≤ length room.old) × ((exec : List ℕ) × (
+        let s = state_at count m scale present.old going.old end.old running.old waiting.old
+        period.now exec deadline.now share.now order.now awake.old arrived.old last.old rk.old rt.old wk.old wt.old slots.old in
+        Whole s × AllTaken s list.now)) }
+    ensures is { (exec : List ℕ) → let s = state_at count m scale present.old going.old end.old running.old waiting.old
+        period.now exec deadline.now share.now order.now awake.old arrived.old last.old rk.old rt.old wk.old wt.old slots.old in
+        Whole s → AllTaken s list.now →
+        state_at count m scale present.new going.new end.new running.new waiting.new
+        period.now exec deadline.now share.now order.now awake.new arrived.new last.new rk.new rt.new wk.new wt.new slots.new
+        ≡ done_all s list.now }
 {
-    let terms = Terms {
-        count: count,
-        m: m,
-        scale: scale,
+    let unread = [0; 128];
+    let mut s = InPlace {
+        table: Columns {
+            rows: Rows {
+                period,
+                exec: &unread,
+                deadline,
+                count,
+            },
+            share,
+            order,
+            m,
+            scale,
+        },
+        now: Instant(*present),
+        going: *going,
+        end: *end,
+        awake,
+        crew: Crew {
+            running: Lane {
+                keys: rk,
+                tasks: rt,
+                len: *running,
+            },
+            waiting: Lane {
+                keys: wk,
+                tasks: wt,
+                len: *waiting,
+            },
+            slots,
+        },
     };
-    let mut at = Instant(*present);
-    let mut is_going = *going;
-    let mut ends = *end;
-    let mut run = *running;
-    let mut wait = *waiting;
-    let mut i: usize = 0;
-    while i < list.len() {
-        let lengths = Lengths {
-            running: run,
-            waiting: wait,
-        };
-        let moment = Moment {
-            now: at,
-            going: is_going,
-            end_tick: ends,
-            lengths: lengths,
-        };
-        let r = held_call(
-            terms, moment, list[i], period, deadline, share, order, awake, arrived, last, rk, rt,
-            wk, wt, slots, room,
-        );
-        let n = r.lengths;
-        at = r.now;
-        is_going = r.going;
-        ends = r.end_tick;
-        run = n.running;
-        wait = n.waiting;
-        i += 1;
+    for call in list {
+        held_call(&mut s, arrived, last, *call, room);
     }
-    *present = at.0;
-    *going = is_going;
-    *end = ends;
-    *running = run;
-    *waiting = wait;
+    *present = s.now.0;
+    *going = s.going;
+    *end = s.end;
+    *running = s.crew.running.len;
+    *waiting = s.crew.waiting.len;
 }
 
-// The check alone.
+// The check alone, where the arrays stand. It leaves all as it is.
+#[unsafe(no_mangle)]
+pub extern "C" fn held_check_in_place<'a>(
+    count: usize,
+    m: usize,
+    scale: u64,
+    present: u64,
+    going: bool,
+    end: u64,
+    running: usize,
+    waiting: usize,
+    period: &'a [u32; 128],
+    exec: &'a [u32; 128],
+    deadline: &'a [u32; 128],
+    share: &'a [u64; 128],
+    order: &'a [u16; 128],
+    awake: &'a mut [bool; 128],
+    arrived: &[bool; 128],
+    last: &[u64; 128],
+    rk: &'a mut [u64; 128],
+    rt: &'a mut [u16; 128],
+    wk: &'a mut [u64; 128],
+    wt: &'a mut [u16; 128],
+    slots: &'a mut [u16; 16],
+) -> bool
+    ensures is { result ≡ holds_of (state_at count m scale present going end running waiting
+        period.now exec.now deadline.now share.now order.now awake.old arrived.now last.now rk.old rt.old wk.old wt.old slots.old) }
+    ensures left { (awake.new ≡ awake.old) × (rk.new ≡ rk.old) × (rt.new ≡ rt.old) × (wk.new ≡ wk.old)
+        × (wt.new ≡ wt.old) × (slots.new ≡ slots.old) }
+{
+    let s = InPlace {
+        table: Columns {
+            rows: Rows {
+                period,
+                exec,
+                deadline,
+                count,
+            },
+            share,
+            order,
+            m,
+            scale,
+        },
+        now: Instant(present),
+        going,
+        end,
+        awake,
+        crew: Crew {
+            running: Lane {
+                keys: rk,
+                tasks: rt,
+                len: running,
+            },
+            waiting: Lane {
+                keys: wk,
+                tasks: wt,
+                len: waiting,
+            },
+            slots,
+        },
+    };
+    together::holds(&s, arrived, last)
+}
+
+// The same of arrays that are lent to be read: on copies of those that a state in place may write to.
 #[unsafe(no_mangle)]
 pub extern "C" fn held_check(
     count: usize,
@@ -158,31 +206,37 @@ pub extern "C" fn held_check(
     wt: &[u16; 128],
     slots: &[u16; 16],
 ) -> bool
-    ensures is { result ≡ holds_of (state_in (terms_of count m scale) (moment_of present going end running waiting)
+    ensures is { result ≡ holds_of (state_at count m scale present going end running waiting
         period.now exec.now deadline.now share.now order.now awake.now arrived.now last.now rk.now rt.now wk.now wt.now slots.now) }
 {
-    together::holds_lent(
+    let mut up = *awake;
+    let mut run_keys = *rk;
+    let mut run_tasks = *rt;
+    let mut wait_keys = *wk;
+    let mut wait_tasks = *wt;
+    let mut seats = *slots;
+    held_check_in_place(
+        count,
+        m,
+        scale,
+        present,
+        going,
+        end,
+        running,
+        waiting,
         period,
         exec,
         deadline,
         share,
         order,
-        count,
-        m,
-        scale,
-        Instant(present),
-        going,
-        end,
-        awake,
+        &mut up,
         arrived,
         last,
-        rk,
-        rt,
-        running,
-        wk,
-        wt,
-        waiting,
-        slots,
+        &mut run_keys,
+        &mut run_tasks,
+        &mut wait_keys,
+        &mut wait_tasks,
+        &mut seats,
     )
 }
 
@@ -192,17 +246,12 @@ fn make_all(first: State, list: &[u64], room: &mut [u8]) -> State
     ensures is { result ≡ made_all (length room.old) first list.now }
 {
     let mut s = first;
-    let mut i: usize = 0;
-    while i < list.len() {
-        let call = list[i];
-        if call < 4294967296 {
-            let a = calls::arrive(s, call);
-            s = a.state;
+    for call in list {
+        if *call < 4294967296 {
+            s = calls::arrive(s, *call).state;
         } else {
-            let r = calls::step(s, call - 4294967296, room);
-            s = r.state;
+            s = calls::step(s, *call - 4294967296, room).state;
         }
-        i += 1;
     }
     s
 }
@@ -212,11 +261,7 @@ fn make_all(first: State, list: &[u64], room: &mut [u8]) -> State
 pub extern "C" fn public_calls(table: &[u8], m: usize, list: &[u64], room: &mut [u8]) -> u64
     ensures is { result ≡ (made_all (length room.old) (admit_of table.now m).state list.now).now.0 }
 {
-    let a = admission::admit(table, m);
-    let first = a.state;
-    let s = make_all(first, list, room);
-    let present = s.now;
-    present.0
+    make_all(admission::admit(table, m).state, list, room).now.0
 }
 
 // The lines of n records.
@@ -235,14 +280,8 @@ pub extern "C" fn public_lines(text: &[u8], out: &mut [u8; 65536]) -> u64
     ensures ends { EndsAt text.now result }
 {
     let mut c = course::first();
-    loop {
-        let stage = c.stage;
-        if course::is_ended(stage) {
-            let state = c.state;
-            let present = state.now;
-            return present.0;
-        }
-        let r = listing::next(text, c, out);
-        c = r.cursor;
+    while !course::is_ended(c.stage) {
+        c = listing::next(text, c, out).cursor;
     }
+    c.state.now.0
 }

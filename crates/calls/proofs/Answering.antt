@@ -1,7 +1,10 @@
 -- An answer put together
 use mathlib.Core.Path.{◌≡◌}
+use mathlib.Core.Bool.{Bool}
+use mathlib.Core.List.{List}
 use Prim.Native.Nat.{ℕ}
-use Rattle.rules.specs.declared.Answer.{Answer}
+use Rattle.rules.specs.Answers.{Answer}
+use Rattle.table.specs.declared.Table.{Table}
 use Rattle.state.specs.declared.State.{State}
 use Rattle.refusals.specs.Arrive.{arrive_answer_of}
 use Rattle.refusals.specs.Step.{step_answer_of}
@@ -11,6 +14,21 @@ use Rattle.inplace.specs.Run.{run_state_of, run_records_of}
 use Rattle.calls.specs.Arrive.{arrive_of}
 use Rattle.calls.specs.Step.{step_of}
 use Rattle.calls.specs.Run.{run_of}
+
+-- the parts of a state that a call worked on, put together
+pub joined_is : (k : State) (table : Table) (awake : List Bool) (rk rt wk wt slots : List ℕ) → table ≡ k.table → awake ≡ k.jobs.awake → rk ≡ k.running.keys → rt ≡ k.running.tasks → wk ≡ k.waiting.keys → wt ≡ k.waiting.tasks → slots ≡ k.slots
+    → record {
+      table = table;
+      now = k.now;
+      going = k.going;
+      end = k.end;
+      jobs = record { awake = awake; arrived = k.jobs.arrived; last = k.jobs.last };
+      running = record { keys = rk; tasks = rt; len = k.running.len };
+      waiting = record { keys = wk; tasks = wt; len = k.waiting.len };
+      slots = slots;
+    }
+    ≡ k
+joined_is k table awake rk rt wk wt slots e e1 e2 e3 e4 e5 e6 = rw (e, e1, e2, e3, e4, e5, e6)
 
 pub arrived_is : (s : State) (task : ℕ) (a : Answer) (k : State) → a ≡ arrive_answer_of s task → k ≡ arrive_state_of s task → record { state = k; answer = a } ≡ arrive_of s task
 unfolding arrive_of

@@ -1,5 +1,5 @@
 -- Each turn leaves less to do
-use Rattle.std.specs.Prelude.{if◌then◌else◌}
+use Rattle.std.specs.Prelude.{if◌then◌else◌, Option, Some, None, Ok, Err}
 use mathlib.Core.Path.{◌≡◌, sym, subst}
 use mathlib.Core.Bool.{Bool, true, false}
 use mathlib.Core.List.{List}
@@ -9,7 +9,7 @@ use lib.Dec.{ltb, eqb}
 use lib.ListN.{length}
 use Rattle.ground.specs.Tests.{Says}
 use Rattle.ground.proofs.Tests.{ltb_says}
-use Rattle.rules.specs.Answers.{is_done}
+use Rattle.rules.specs.Answers.{Answer}
 use Rattle.rules.proofs.Keeping.{not_both}
 use Rattle.state.specs.declared.State.{State}
 use Rattle.admission.specs.declared.Admitted.{Admitted}
@@ -19,19 +19,16 @@ use Rattle.admission.specs.Admit.{admit_of}
 use Rattle.calls.specs.Arrive.{arrive_of}
 use Rattle.calls.specs.Run.{run_of}
 use Rattle.text.specs.declared.Item.{Item}
-use Rattle.text.specs.declared.Item.TheVariants.{Processors, Task, Arrive, Until, Other}
-use Rattle.text.specs.declared.Checked.{Checked}
-use Rattle.text.specs.declared.Checked.TheVariants.{Good, Broken}
-use Rattle.text.specs.Form.{form_of}
-use Rattle.text.specs.Meaning.{items_of, line_at, processors_in, row_line_of, table_of}
+use Rattle.text.specs.declared.Item.TheVariants.{Processors, Task, Arrive, Until}
+use Rattle.text.specs.Form.{Checked, form_of}
+use Rattle.text.specs.Meaning.{items_of, line_at, processors_in, table_of}
 use Rattle.text.proofs.Walks.{next_later, next_within}
 use Rattle.course.specs.declared.Stage.{Stage}
 use Rattle.course.specs.declared.Stage.TheVariants.{Start, Lines, Ended}
 use Rattle.course.specs.declared.Cursor.{Cursor}
 use Rattle.course.specs.declared.Deed.TheVariants.{Run, Arrival, Finish}
-use Rattle.course.specs.declared.Part.TheVariants.{Scale, Records, Refused, Nothing}
 use Rattle.course.specs.declared.Turned.{Turned}
-use Rattle.course.specs.Turns.{turned, is_ended, ended_at, line_after, admitted_of, start_by, start_of, arrival_of, ran_of, item_deed, line_deed, deed_by, turn_by, turn_of}
+use Rattle.course.specs.Turns.{turned, is_ended, line_after, admitted_on, admitted_of, start_by, start_of, arrival_on, arrival_of, ran_on, ran_of, item_deed, line_deed, deed_by, turn_by, turn_of}
 use Rattle.course.specs.Moves.{Moves, instants, left_by, left, Falls}
 
 -- what is left after a turn, of a text so long
@@ -46,59 +43,58 @@ start_falls text c = go (form_of text)
     a : Admitted
     a = admit_of (table_of text) (processors_in (items_of text))
 
-    by : (b : Bool) → left_after (length text) (if b then turned a.state 0 1 Lines (Scale a.state.table.scale) else ended_at c (Refused a.answer (row_line_of text a.row))) < (length text + 1) * instants + 2
-    by true = omega arith
-    by false = omega arith
+    by : (x : Answer) → left_after (length text) (admitted_on text c a.state a.row x) < (length text + 1) * instants + 2
+    by (Ok u) = omega arith
+    by (Err refusal) = omega arith
 
     go : (f : Checked) → left_after (length text) (start_by text c f) < (length text + 1) * instants + 2
-    go Good = unfold admitted_of in (by (is_done a.answer))
-    go (Broken line) = omega arith
+    go (Ok u) = unfold admitted_of in (by a.answer)
+    go (Err flaw) = omega arith
 
 -- on a line
 module _ (text : List ℕ) (c : Cursor) (n : ℕ) (small : c.state.now.0 < instants) (on : c.at < length text) where
   -- the next line
-  next_less : (s : State) (line : ℕ) → left_after (length text) (turned s (line_at text c.at).next line Lines Nothing) < left_by Lines (length text) c.at c.state.now.0
+  next_less : (s : State) (line : ℕ) → left_after (length text) (turned s (line_at text c.at).next line Lines None) < left_by Lines (length text) c.at c.state.now.0
   next_less s line = omega (arith, next_later text c.at on, next_within text c.at, small, on)
 
   ran_less : (tick : ℕ) → Moves c (ran_of c tick n) n → left_after (length text) (ran_of c tick n) < left_by Lines (length text) c.at c.state.now.0
   unfolding ran_of
-  ran_less tick = by (is_done (run_of c.state tick n).answer)
+  ran_less tick = by (run_of c.state tick n).answer
     where
       r : Ran
       r = run_of c.state tick n
 
-      by : (b : Bool) → Moves c (if b then turned r.state c.at c.line Lines (Records r.records c.state.table.m) else ended_at c (Refused r.answer c.line)) n
-          → left_after (length text) (if b then turned r.state c.at c.line Lines (Records r.records c.state.table.m) else ended_at c (Refused r.answer c.line)) < left_by Lines (length text) c.at c.state.now.0
-      by true M = omega (arith, M.2, small)
-      by false M = omega arith
+      by : (x : Answer) → Moves c (ran_on c r.state r.records x) n → left_after (length text) (ran_on c r.state r.records x) < left_by Lines (length text) c.at c.state.now.0
+      by (Ok u) M = omega (arith, M.2, small)
+      by (Err refusal) M = omega arith
 
   arrival_less : (task : ℕ) → left_after (length text) (arrival_of c task (line_at text c.at).next) < left_by Lines (length text) c.at c.state.now.0
   unfolding arrival_of
-  arrival_less task = by (is_done (arrive_of c.state task).answer)
+  arrival_less task = by (arrive_of c.state task).answer
     where
       a : Arrived
       a = arrive_of c.state task
 
-      by : (b : Bool) → left_after (length text) (if b then turned a.state (line_at text c.at).next (line_after c.line) Lines Nothing else ended_at c (Refused a.answer c.line)) < left_by Lines (length text) c.at c.state.now.0
-      by true = next_less a.state (line_after c.line)
-      by false = omega arith
+      by : (x : Answer) → left_after (length text) (arrival_on c (line_at text c.at).next a.state x) < left_by Lines (length text) c.at c.state.now.0
+      by (Ok u) = next_less a.state (line_after c.line)
+      by (Err refusal) = omega arith
 
-  item_less : (x : Item) → Moves c (turn_by (item_deed x (line_at text c.at).next c.state.now.0 c.state.table.scale) text c n) n
+  item_less : (x : Option Item) → Moves c (turn_by (item_deed x (line_at text c.at).next c.state.now.0 c.state.table.scale) text c n) n
       → left_after (length text) (turn_by (item_deed x (line_at text c.at).next c.state.now.0 c.state.table.scale) text c n) < left_by Lines (length text) c.at c.state.now.0
-  item_less (Processors m) M = next_less c.state (line_after c.line)
-  item_less (Task p e d) M = next_less c.state (line_after c.line)
-  item_less (Arrive tick task) M = by (eqb c.state.now.0 (tick * c.state.table.scale)) M
+  item_less (Some (Processors m)) M = next_less c.state (line_after c.line)
+  item_less (Some (Task p e d)) M = next_less c.state (line_after c.line)
+  item_less (Some (Arrive tick task)) M = by (eqb c.state.now.0 (tick * c.state.table.scale)) M
     where
       by : (b : Bool) → Moves c (turn_by (if b then Arrival task (line_at text c.at).next else Run tick) text c n) n
           → left_after (length text) (turn_by (if b then Arrival task (line_at text c.at).next else Run tick) text c n) < left_by Lines (length text) c.at c.state.now.0
       by true M = arrival_less task
       by false M = ran_less tick M
-  item_less (Until tick) M = by (eqb c.state.now.0 (tick * c.state.table.scale)) M
+  item_less (Some (Until tick)) M = by (eqb c.state.now.0 (tick * c.state.table.scale)) M
     where
       by : (b : Bool) → Moves c (turn_by (if b then Finish else Run tick) text c n) n → left_after (length text) (turn_by (if b then Finish else Run tick) text c n) < left_by Lines (length text) c.at c.state.now.0
       by true M = omega arith
       by false M = ran_less tick M
-  item_less Other M = next_less c.state (line_after c.line)
+  item_less None M = next_less c.state (line_after c.line)
 
 pub line_falls : (text : List ℕ) (c : Cursor) (n : ℕ) → c.state.now.0 < instants → Moves c (turn_by (line_deed text c.at c.state.now.0 c.state.table.scale) text c n) n
     → left_after (length text) (turn_by (line_deed text c.at c.state.now.0 c.state.table.scale) text c n) < left_by Lines (length text) c.at c.state.now.0

@@ -1,7 +1,5 @@
-pub mod Sizes
-pub mod Places
-pub mod Turning
 pub mod Falling
+pub mod Turning
 pub mod Following
 pub mod Owing
 pub mod Making

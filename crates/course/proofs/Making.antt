@@ -1,5 +1,5 @@
 -- Of a cursor that this code made each turn leaves less to do, by the definitions alone
-use Rattle.std.specs.Prelude.{if◌then◌else◌}
+use Rattle.std.specs.Prelude.{if◌then◌else◌, Option, Some, None}
 use mathlib.Core.Path.{◌≡◌, refl, sym, ◌∙◌, subst}
 use mathlib.Core.Bool.{Bool, true, false}
 use mathlib.Core.List.{List}
@@ -8,8 +8,7 @@ use native.Mathlib.Omega.{arith}
 use lib.Dec.{ltb, eqb}
 use lib.ListN.{length}
 use Rattle.moves.proofs.Keeping.{together_of}
-use Rattle.rules.specs.declared.Answer.TheVariants.{Done}
-use Rattle.rules.specs.Answers.{is_done}
+use Rattle.rules.specs.Answers.{Done, is_done}
 use Rattle.rules.specs.Bounds.{clock}
 use Rattle.rules.specs.Reasons.{StepReason}
 use Rattle.rules.proofs.Keeping.{not_both}
@@ -23,18 +22,16 @@ use Rattle.calls.specs.Run.{run_of}
 use Rattle.rules.proofs.Jobs.{done_is}
 use Rattle.refusals.proofs.Agreeing.{step_same}
 use Rattle.text.specs.declared.Item.{Item}
-use Rattle.text.specs.declared.Item.TheVariants.{Processors, Task, Arrive, Until, Other}
+use Rattle.text.specs.declared.Item.TheVariants.{Processors, Task, Arrive, Until}
 use Rattle.text.specs.Meaning.{line_at}
 use Rattle.course.specs.declared.Stage.{Stage}
 use Rattle.course.specs.declared.Stage.TheVariants.{Start, Lines, Ended}
 use Rattle.course.specs.declared.Cursor.{Cursor}
 use Rattle.course.specs.declared.Deed.TheVariants.{Run, Arrival, Finish}
-use Rattle.course.specs.declared.Part.TheVariants.{Refused}
-use Rattle.course.specs.declared.Turned.{Turned}
-use Rattle.course.specs.Turns.{is_ended, ended_at, ran_of, item_deed, line_deed, deed_by, turn_by, turn_of}
+use Rattle.course.specs.Turns.{is_ended, item_deed, line_deed, deed_by, turn_by, turn_of}
 use Rattle.course.specs.Moves.{Moves, instants, left_by, left}
 use Rattle.course.specs.Owed.{MadeBy, Made}
-use Rattle.course.proofs.Turning.{arrival_moves, ran_no, ran_yes}
+use Rattle.course.proofs.Turning.{arrival_moves, ran_moves}
 use Rattle.course.proofs.Falling.{left_after, start_falls, line_falls}
 
 -- a run that is not refused lies ahead
@@ -45,29 +42,20 @@ run_ahead s tick n W d =
     let R = subst (StepReason (view s) tick n) (sym (step_same s tick n W) ∙ e) (step_answers (view s) tick n) in
     record { whole = W; ahead = R.3; clock = R.2; space = R.1 }
 
-ran_moves : (c : Cursor) (tick n : ℕ) → Whole c.state → Moves c (ran_of c tick n) n
-ran_moves c tick n W = go (is_done (run_of c.state tick n).answer) refl
-  where
-    go : (b : Bool) → is_done (run_of c.state tick n).answer ≡ b → Moves c (ran_of c tick n) n
-    go true d = let y = ran_yes c tick n (run_of c.state tick n) refl d (run_ahead c.state tick n W d) in subst (λ (x : Turned). Moves c x n) y.0 y.1
-    go false d =
-        let y = ran_no c tick n (run_of c.state tick n) refl d (ended_at c (Refused (run_of c.state tick n).answer c.line)) refl in
-        subst (λ (x : Turned). Moves c x n) y.0 y.1
-
-item_moves : (text : List ℕ) (x : Item) (next : ℕ) (c : Cursor) (n : ℕ) → Whole c.state → Moves c (turn_by (item_deed x next c.state.now.0 c.state.table.scale) text c n) n
-item_moves text (Processors m) next c n W = tt
-item_moves text (Task p e d) next c n W = tt
-item_moves text (Arrive tick task) next c n W = go (eqb c.state.now.0 (tick * c.state.table.scale))
+item_moves : (text : List ℕ) (x : Option Item) (next : ℕ) (c : Cursor) (n : ℕ) → Whole c.state → Moves c (turn_by (item_deed x next c.state.now.0 c.state.table.scale) text c n) n
+item_moves text (Some (Processors m)) next c n W = tt
+item_moves text (Some (Task p e d)) next c n W = tt
+item_moves text (Some (Arrive tick task)) next c n W = go (eqb c.state.now.0 (tick * c.state.table.scale))
   where
     go : (b : Bool) → Moves c (turn_by (if b then Arrival task next else Run tick) text c n) n
     go true = arrival_moves c task next n
-    go false = ran_moves c tick n W
-item_moves text (Until tick) next c n W = go (eqb c.state.now.0 (tick * c.state.table.scale))
+    go false = ran_moves c tick n (run_ahead c.state tick n W)
+item_moves text (Some (Until tick)) next c n W = go (eqb c.state.now.0 (tick * c.state.table.scale))
   where
     go : (b : Bool) → Moves c (turn_by (if b then Finish else Run tick) text c n) n
     go true = tt
-    go false = ran_moves c tick n W
-item_moves text Other next c n W = tt
+    go false = ran_moves c tick n (run_ahead c.state tick n W)
+item_moves text None next c n W = tt
 
 line_moves : (text : List ℕ) (c : Cursor) (n : ℕ) → Whole c.state → Moves c (turn_by (line_deed text c.at c.state.now.0 c.state.table.scale) text c n) n
 line_moves text c n W = go (ltb c.at (length text))

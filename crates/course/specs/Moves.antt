@@ -1,19 +1,19 @@
 -- EACH TURN LEAVES LESS TO DO
-use Rattle.std.specs.Prelude.{◌≡◌, false, List, ℕ, ◌+◌, ◌*◌, ◌-◌, ◌≤◌, ◌<◌, length}
+use Rattle.std.specs.Prelude.{◌≡◌, false, List, ℕ, ◌+◌, ◌*◌, ◌-◌, ◌≤◌, ◌<◌, length, Option, Some, None}
 use Rattle.course.specs.declared.Stage.{Stage}
 use Rattle.course.specs.declared.Stage.TheVariants.{Start, Lines, Ended}
 use Rattle.course.specs.declared.Cursor.{Cursor}
 use Rattle.course.specs.declared.Part.{Part}
-use Rattle.course.specs.declared.Part.TheVariants.{Scale, Records, Refused, Nothing}
+use Rattle.course.specs.declared.Part.TheVariants.{Scale, Records, Refused}
 use Rattle.course.specs.declared.Turned.{Turned}
 use Rattle.course.specs.Turns.{is_ended}
 
 -- records are of at most 16 processors and fit the room, and the present moves on
-abbrev pub MovesBy : Part → ℕ → ℕ → ℕ → Type 0
-MovesBy (Records k m) before after n = (m ≤ 16) × (48 * k ≤ n) × (before < after)
-MovesBy (Scale l) before after n = Unit {0}
-MovesBy (Refused a line) before after n = Unit {0}
-MovesBy Nothing before after n = Unit {0}
+abbrev pub MovesBy : Option Part → ℕ → ℕ → ℕ → Type 0
+MovesBy (Some (Records k m)) before after n = (m ≤ 16) × (48 * k ≤ n) × (before < after)
+MovesBy (Some (Scale l)) before after n = Unit {0}
+MovesBy (Some (Refused refusal line)) before after n = Unit {0}
+MovesBy None before after n = Unit {0}
 
 abbrev pub Moves : Cursor → Turned → ℕ → Type 0
 Moves c r n = MovesBy r.part c.state.now.0 r.cursor.state.now.0 n

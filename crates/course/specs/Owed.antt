@@ -1,5 +1,5 @@
 -- WHAT A CURSOR OWES: the entries of the text's course that are still to come, in the words of the rules
-use Rattle.std.specs.Prelude.{List, [], ◌∷◌, map, ℕ, ◌+◌, ◌≤◌, length, drop}
+use Rattle.std.specs.Prelude.{List, [], ◌∷◌, map, ℕ, ◌+◌, ◌≤◌, length, drop, Option, Some, None, Err}
 use Rattle.state.specs.View.{view}
 use Rattle.moves.specs.Whole.{Whole}
 use Rattle.demands.specs.Demands.{read_records}
@@ -9,14 +9,14 @@ use Rattle.course.specs.declared.Stage.{Stage}
 use Rattle.course.specs.declared.Stage.TheVariants.{Start, Lines, Ended}
 use Rattle.course.specs.declared.Cursor.{Cursor}
 use Rattle.course.specs.declared.Part.{Part}
-use Rattle.course.specs.declared.Part.TheVariants.{Scale, Records, Refused, Nothing}
+use Rattle.course.specs.declared.Part.TheVariants.{Scale, Records, Refused}
 
 -- the entries of a part; its records are in the room
-abbrev pub entries_of : Part → List ℕ → List Entry
-entries_of (Scale scale) room = scale_entry scale ∷ []
-entries_of (Records k m) room = map (record_entry m) (read_records k room)
-entries_of (Refused answer line) room = refused_entry answer line ∷ []
-entries_of Nothing room = []
+abbrev pub entries_of : Option Part → List ℕ → List Entry
+entries_of (Some (Scale scale)) room = scale_entry scale ∷ []
+entries_of (Some (Records k m)) room = map (record_entry m) (read_records k room)
+entries_of (Some (Refused refusal line)) room = refused_entry (Err refusal) line ∷ []
+entries_of None room = []
 
 -- all of the text's course at the beginning, nothing at the end, between them what comes of the lines from the cursor's on
 abbrev pub owes_by : Stage → List ℕ → Cursor → List Entry

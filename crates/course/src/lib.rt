@@ -3,15 +3,15 @@
 
 ghost use Rattle.std.specs.Prelude.{◌≡◌, ◌*◌, eqb, length};
 ghost use Rattle.inplace.specs.Run.{run_room};
-ghost use Rattle.course.specs.Turns.{first_cursor, is_ended, ended_at, line_after, skipped_of, admitted_of, start_of, arrival_of, ran_of, item_deed, line_deed, deed_by, turn_of, turn_room};
+ghost use Rattle.course.specs.Turns.{first_cursor, is_ended, ended_at, refused_at, line_after, skipped_of, admitted_of, start_of, arrival_of, ran_of, item_deed, line_deed, deed_of, turn_of, turn_room};
 ghost use Rattle.course.specs.Moves.{Moves, Falls};
 
-use rules::Answer;
+use rules::Refusal;
 use state::State;
-use text::{Checked, Item};
+use text::Item;
 
 // Where the program stands: before the text, on a line of it, or at the end.
-#[derive(Clone, Copy)]
+#[derive(Clone, Copy, Debug, PartialEq, Eq)]
 pub enum Stage {
     Start,
     Lines,
@@ -27,13 +27,12 @@ pub struct Cursor {
     pub stage: Stage,
 }
 
-// What comes next: the scale, so many records of m processors in the room, a refusal with its text line, or nothing.
-#[derive(Clone, Copy)]
+// What comes of a turn: the scale, so many records of m processors in the room, or a refusal with its text line.
+#[derive(Clone, Copy, Debug, PartialEq, Eq)]
 pub enum Part {
     Scale(u64),
-    Records(usize, usize),
-    Refused(Answer, u64),
-    Nothing,
+    Records { count: usize, m: usize },
+    Refused { refusal: Refusal, line: u64 },
 }
 
 // What is due: the form and the table, steps towards a tick, an arrival and the place of the next line, that place alone, the end.
@@ -46,11 +45,11 @@ pub enum Deed {
     Finish,
 }
 
-// The cursor after a call, and what came of it.
+// The cursor after a call, and what came of it, if anything did.
 #[derive(Clone, Copy)]
 pub struct Turned {
     pub cursor: Cursor,
-    pub part: Part,
+    pub part: Option<Part>,
 }
 
 // The cursor before a text, with the blank state that a refused admission gives.
@@ -58,13 +57,11 @@ pub fn first() -> Cursor
     ensures is { result ≡ first_cursor }
 {
     let a = admission::admit(b"", 0);
-    let state = a.state;
-    let stage = Stage::Start;
     Cursor {
-        state: state,
+        state: a.state,
         at: 0,
         line: 0,
-        stage: stage,
+        stage: Stage::Start,
     }
 }
 
@@ -72,71 +69,60 @@ pub fn first() -> Cursor
 pub fn is_ended(stage: Stage) -> bool
     ensures is { result ≡ is_ended stage }
 {
-    match stage {
-        Stage::Start => false,
-        Stage::Lines => false,
-        Stage::Ended => true,
-    }
+    stage == Stage::Ended
 }
 
 // The end, with a last part.
-fn ended(c: Cursor, part: Part) -> Turned
+fn ended(c: Cursor, part: Option<Part>) -> Turned
     ensures is { result ≡ ended_at c part }
 {
-    let state = c.state;
-    let stage = Stage::Ended;
-    let cursor = Cursor {
-        state: state,
-        at: c.at,
-        line: c.line,
-        stage: stage,
-    };
     Turned {
-        cursor: cursor,
-        part: part,
+        cursor: Cursor {
+            stage: Stage::Ended,
+            ..c
+        },
+        part,
     }
+}
+
+// The end, with a refusal.
+fn refused(c: Cursor, refusal: Refusal, line: u64) -> Turned
+    ensures is { result ≡ refused_at c refusal line }
+{
+    ended(c, Some(Part::Refused { refusal, line }))
 }
 
 // The next line's number; a text of good form has at most 65,536 lines.
 fn line_after(line: u64) -> u64
     ensures is { result ≡ line_after line }
 {
-    if line <= 65536 {
-        return line + 1;
-    }
-    line
+    if line <= 65536 { line + 1 } else { line }
 }
 
 // On to the next line.
 fn skipped(c: Cursor, next: usize) -> Turned
     ensures is { result ≡ skipped_of c next }
 {
-    let state = c.state;
-    let stage = Stage::Lines;
-    let cursor = Cursor {
-        state: state,
-        at: next,
-        line: line_after(c.line),
-        stage: stage,
-    };
-    let part = Part::Nothing;
     Turned {
-        cursor: cursor,
-        part: part,
+        cursor: Cursor {
+            at: next,
+            line: line_after(c.line),
+            stage: Stage::Lines,
+            ..c
+        },
+        part: None,
     }
 }
 
 // Is the present the tick?
-fn is_at(present: u64, scale: u64, tick: u64) -> bool
-    ensures is { result ≡ eqb present (tick * scale) }
+fn is_at(s: &State, tick: u64) -> bool
+    ensures is { result ≡ eqb s.entry.now.now.0 (tick * s.entry.now.table.scale) }
 {
-    if scale == 0 {
-        return present == 0;
-    }
-    if present % scale != 0 {
+    let present = s.now.0;
+    let Some(there) = tick.checked_mul(s.table.scale) else {
         return false;
-    }
-    present / scale == tick
+    };
+    present == there
 }
 
 // A text of good form: its table is admitted or refused.
@@ -145,26 +131,19 @@ fn admitted(text: &[u8], c: Cursor) -> Turned
 {
     let m = text::processors(text) as usize;
     let mut bytes = [0u8; 1548];
-    let t = text::table(text, &mut bytes);
-    let a = admission::admit(&bytes[..t], m);
-    let answer = a.answer;
-    if !table::is_done(answer) {
-        let line = text::row_line(text, a.row as u64);
-        return ended(c, Part::Refused(answer, line));
-    }
-    let state = a.state;
-    let held = state.table;
-    let stage = Stage::Lines;
-    let cursor = Cursor {
-        state: state,
-        at: 0,
-        line: 1,
-        stage: stage,
-    };
-    let part = Part::Scale(held.scale);
-    Turned {
-        cursor: cursor,
-        part: part,
+    let len = text::table(text, &mut bytes);
+    let a = admission::admit(&bytes[..len], m);
+    match a.answer {
+        Ok(()) => Turned {
+            cursor: Cursor {
+                state: a.state,
+                at: 0,
+                line: 1,
+                stage: Stage::Lines,
+            },
+            part: Some(Part::Scale(a.state.table.scale)),
+        },
+        Err(refusal) => refused(c, refusal, text::row_line(text, a.row as u64)),
     }
 }
 
@@ -172,10 +151,9 @@ fn admitted(text: &[u8], c: Cursor) -> Turned
 fn start(text: &[u8], c: Cursor) -> Turned
     ensures is { result ≡ start_of text.now c }
 {
-    let form = text::form(text);
-    match form {
-        Checked::Good => admitted(text, c),
-        Checked::Broken(line) => ended(c, Part::Refused(Answer::TextForm, line)),
+    match text::form(text) {
+        Ok(()) => admitted(text, c),
+        Err(flaw) => refused(c, Refusal::TextForm, flaw.line()),
     }
 }
 
@@ -183,24 +161,18 @@ fn start(text: &[u8], c: Cursor) -> Turned
 fn arrival(c: Cursor, task: u64, next: usize) -> Turned
     ensures is { result ≡ arrival_of c task next }
 {
-    let given = c.state;
-    let a = calls::arrive(given, task);
-    let answer = a.answer;
-    if !table::is_done(answer) {
-        return ended(c, Part::Refused(answer, c.line));
-    }
-    let state = a.state;
-    let stage = Stage::Lines;
-    let cursor = Cursor {
-        state: state,
-        at: next,
-        line: line_after(c.line),
-        stage: stage,
-    };
-    let part = Part::Nothing;
-    Turned {
-        cursor: cursor,
-        part: part,
+    let a = calls::arrive(c.state, task);
+    match a.answer {
+        Ok(()) => Turned {
+            cursor: Cursor {
+                state: a.state,
+                at: next,
+                line: line_after(c.line),
+                stage: Stage::Lines,
+            },
+            part: None,
+        },
+        Err(refusal) => refused(c, refusal, c.line),
     }
 }
 
@@ -209,71 +181,65 @@ fn ran(c: Cursor, tick: u64, room: &mut [u8]) -> Turned
     ensures is { (result ≡ ran_of c tick (length room.old)) × (room.new ≡ run_room c.state tick room.old) }
     ensures moves { Moves c result (length room.old) }
 {
-    let given = c.state;
-    let held = given.table;
-    let m = held.m;
-    let r = calls::run(given, tick, room);
-    let answer = r.answer;
-    if !table::is_done(answer) {
-        return ended(c, Part::Refused(answer, c.line));
-    }
-    let state = r.state;
-    let stage = Stage::Lines;
-    let cursor = Cursor {
-        state: state,
-        at: c.at,
-        line: c.line,
-        stage: stage,
-    };
-    let part = Part::Records(r.records, m);
-    Turned {
-        cursor: cursor,
-        part: part,
+    let r = calls::run(c.state, tick, room);
+    match r.answer {
+        Ok(()) => Turned {
+            cursor: Cursor {
+                state: r.state,
+                stage: Stage::Lines,
+                ..c
+            },
+            part: Some(Part::Records {
+                count: r.records,
+                m: c.state.table.m,
+            }),
+        },
+        Err(refusal) => refused(c, refusal, c.line),
     }
 }
 
 // What a line asks for.
-fn item_deed(item: Item, next: usize, present: u64, scale: u64) -> Deed
-    ensures is { result ≡ item_deed item next present scale }
+fn item_deed(item: Option<Item>, next: usize, s: &State) -> Deed
+    ensures is { result ≡ item_deed item next s.entry.now.now.0 s.entry.now.table.scale }
 {
+    let Some(item) = item else {
+        return Deed::Skip(next);
+    };
     match item {
-        Item::Processors(_) => Deed::Skip(next),
-        Item::Task(_, _, _) => Deed::Skip(next),
+        Item::Processors(_) | Item::Task(_, _, _) => Deed::Skip(next),
         Item::Arrive(tick, task) => {
-            if is_at(present, scale, tick) {
+            if is_at(s, tick) {
                 return Deed::Arrival(task, next);
             }
             Deed::Run(tick)
         }
         Item::Until(tick) => {
-            if is_at(present, scale, tick) {
+            if is_at(s, tick) {
                 return Deed::Finish;
             }
             Deed::Run(tick)
         }
-        Item::Other => Deed::Skip(next),
     }
 }
 
-// What the line at a place of the text asks for.
-fn line_deed(text: &[u8], at: usize, present: u64, scale: u64) -> Deed
-    ensures is { result ≡ line_deed text.now at present scale }
+// What the cursor's line asks for.
+fn line_deed(text: &[u8], c: &Cursor) -> Deed
+    ensures is { result ≡ line_deed text.now c.now.at c.now.state.now.0 c.now.state.table.scale }
 {
-    if text.len() <= at {
+    if text.len() <= c.at {
         return Deed::Finish;
     }
-    let l = text::line_at(text, at);
-    let item = l.item;
-    item_deed(item, l.next, present, scale)
+    let line = text::line_at(text, c.at);
+    item_deed(line.item, line.next, &c.state)
 }
 
 // What is due.
-fn due(text: &[u8], stage: Stage, at: usize, present: u64, scale: u64) -> Deed
-    ensures is { result ≡ deed_by stage text.now at present scale }
+fn due(text: &[u8], c: &Cursor) -> Deed
+    ensures is { result ≡ deed_of text.now c.now }
 {
-    match stage {
+    match c.stage {
         Stage::Start => Deed::Begin,
-        Stage::Lines => line_deed(text, at, present, scale),
+        Stage::Lines => line_deed(text, c),
         Stage::Ended => Deed::Finish,
     }
 }
@@ -284,13 +250,11 @@ pub fn turn(text: &[u8], c: Cursor, room: &mut [u8]) -> Turned
     ensures is { (result ≡ turn_of text.now c (length room.old)) × (room.new ≡ turn_room text.now c room.old) }
     ensures moves { Moves c result (length room.old) × Falls text.now c result.cursor }
 {
-    let stage = c.stage;
-    let what = due(text, stage, c.at, c.state.now.0, c.state.table.scale);
-    match what {
+    match due(text, &c) {
         Deed::Begin => start(text, c),
         Deed::Run(tick) => ran(c, tick, room),
         Deed::Arrival(task, next) => arrival(c, task, next),
         Deed::Skip(next) => skipped(c, next),
-        Deed::Finish => ended(c, Part::Nothing),
+        Deed::Finish => ended(c, None),
     }
 }

@@ -8,15 +8,13 @@ use Prim.Native.Nat.{ℕ, suc, ◌*◌, ◌-◌, ◌/◌}
 use native.Mathlib.Omega.{arith}
 use lib.Dec.{leb, ltb}
 use lib.ListN.{length, take, drop, length-replicate}
-use Rattle.rules.specs.declared.Answer.{Answer}
-use Rattle.rules.specs.declared.Answer.TheVariants.{Done, Processors, TableLength, RowRange, RowExecution, Scale, Shares, TaskNumber, BetweenTicks, TooSoon, HorizonPastClock, HorizonNotLater, RoomTooShort, NotTogether, TextForm}
+use Rattle.rules.specs.Answers.{Answer, Done, Processors, TableLength, RowRange, RowExecution, Scale, Shares, TaskNumber, BetweenTicks, TooSoon, HorizonPastClock, HorizonNotLater, RoomTooShort, NotTogether, number_of, is_done}
 use Rattle.state.specs.declared.State.{State}
 use Rattle.rules.specs.State as Rules
 use Rattle.rules.specs.Run as Rule
 use Rattle.rules.specs.Calls as RuleCalls
 use Rattle.demands.specs.Demands as Say
 use Rattle.rules.specs.Admission.{admit_verdict, admit}
-use Rattle.rules.specs.Answers.{number_of, is_done}
 use Rattle.rules.specs.Reasons.{AdmitReason, StepReason}
 use Rattle.rules.specs.Record.{Record, record_bytes}
 use Rattle.rules.proofs.Computed.{computed}
@@ -242,14 +240,7 @@ admit_listed bytes m = go (admit_verdict bytes m).answer (admit_verdict bytes m)
     go RowExecution i h = inr (inr (inr (inr (inl refl))))
     go Scale i h = inr (inr (inr (inr (inr (inl refl)))))
     go Shares i h = inr (inr (inr (inr (inr (inr (inl refl))))))
-    go TaskNumber i h = absurd h
-    go BetweenTicks i h = absurd h
-    go TooSoon i h = absurd h
-    go HorizonPastClock i h = absurd h
-    go HorizonNotLater i h = absurd h
-    go RoomTooShort i h = absurd h
-    go NotTogether i h = absurd h
-    go TextForm i h = absurd h
+    go other i h = absurd h
 
 blank_refused : holds_of blank_state ≡ false
 blank_refused = go (holds_of blank_state) refl

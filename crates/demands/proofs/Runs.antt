@@ -8,12 +8,10 @@ use native.Mathlib.Omega.{arith}
 use lib.Dec.{ltb}
 use lib.ListN.{length, drop, replicate, length-replicate}
 use lib.Seq.{take_at, drop_at}
-use Rattle.rules.specs.declared.Answer.{Answer}
-use Rattle.rules.specs.declared.Answer.TheVariants.{Done, HorizonNotLater}
+use Rattle.rules.specs.Answers.{Answer, Done, HorizonNotLater, is_done}
 use Rattle.state.specs.declared.State.{State}
 use Rattle.ground.specs.Tests.{Says}
 use Rattle.ground.proofs.Tests.{ltb_says}
-use Rattle.rules.specs.Answers.{is_done}
 use Rattle.rules.specs.Run.{Arrival}
 use Rattle.rules.specs.Record.{Record, record_bytes, read_record}
 use Rattle.rules.specs.Reasons.{StepReason}

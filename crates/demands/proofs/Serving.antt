@@ -7,18 +7,16 @@ use mathlib.Core.List.{List, [], ◌∷◌, ◌++◌, map}
 use Prim.Native.Nat.{ℕ, zero, suc}
 use native.Mathlib.Omega.{arith}
 use lib.ListN.{length, replicate}
-use Rattle.rules.specs.declared.Answer.{Answer}
-use Rattle.rules.specs.declared.Answer.TheVariants.{Done}
+use Rattle.rules.specs.Answers.{Answer, Done, is_done}
 use Rattle.state.specs.declared.State.{State}
 use Rattle.rules.specs.State as Rules
 use Rattle.rules.specs.Calls as Rule
 use Rattle.rules.specs.Run as Runs
-use Rattle.rules.specs.Answers.{is_done}
 use Rattle.rules.specs.Record.{Record, read_record}
 use Rattle.rules.specs.Run.{perform, perform_all}
 use Rattle.rules.specs.Table.{Row}
 use Rattle.rules.specs.History.{In, Within}
-use Rattle.rules.proofs.Jobs.{Good, perform_good}
+use Rattle.rules.proofs.Jobs.{Good, perform_good, all_split}
 use Rattle.rules.proofs.Demands.{Manned, manned_on, next_of}
 use Rattle.state.specs.Machine.{tick_at}
 use Rattle.state.specs.View.{view}
@@ -39,12 +37,21 @@ pub record Together-run (r : Calls) (q : Runs.Run) : Type 0 where
   pub records : r.records ≡ q.records
   pub arrivals : r.arrivals ≡ q.arrivals
 
+-- the rules' answers
+arrive_answered : (s : State) (task : ℕ) → Whole s → (arrive_of s task).answer ≡ (Rule.arrive (view s) task).answer
+unfolding arrive_of Rule.arrive
+arrive_answered s task W = arrive_same s task W
+
+step_answered : (s : State) (h : ℕ) (room : List ℕ) → Whole s → (step_of s h (length room)).answer ≡ (Rule.step (view s) h room).answer
+unfolding step_of Rule.step
+step_answered s h room W = step_same s h (length room) W
+
 arrive_together : (r : Calls) (q : Runs.Run) (task : ℕ) → Together-run r q → Together-run (calling r (arrive_call task)) (perform q (Runs.arrive_call task))
 unfolding calling perform
 arrive_together r q task T =
     let s = r.state in
     let K = arrive_kept s task T.whole in
-    let a : (arrive_of s task).answer ≡ (Rule.arrive q.state task).answer = answers s task T.whole ∙ ap (λ (x : Rules.State). (Rule.arrive x task).answer) T.same in
+    let a : (arrive_of s task).answer ≡ (Rule.arrive q.state task).answer = arrive_answered s task T.whole ∙ ap (λ (x : Rules.State). (Rule.arrive x task).answer) T.same in
     record {
       whole = K.whole;
       same = K.same ∙ ap (λ (x : Rules.State). (Rule.arrive x task).state) T.same;
@@ -52,9 +59,6 @@ arrive_together r q task T =
       arrivals = more (arrive_of s task).answer (Rule.arrive q.state task).answer r.arrivals q.arrivals (tick_at s) (Rules.tick_of q.state) a T.arrivals (ap Rules.tick_of T.same);
     }
   where
-    answers : (s : State) (task : ℕ) → Whole s → (arrive_of s task).answer ≡ (Rule.arrive (view s) task).answer
-    answers s task W = unfold arrive_of Rule.arrive in (arrive_same s task W)
-
     more : (x y : Answer) (xs ys : List Runs.Arrival) (t u : ℕ) → x ≡ y → xs ≡ ys → t ≡ u
         → (if is_done x then record { task = task; tick = t } ∷ xs else xs) ≡ (if is_done y then record { task = task; tick = u } ∷ ys else ys)
     more x y xs ys t u e f g = rw (e, f, g)
@@ -64,7 +68,7 @@ unfolding calling perform
 step_together r q h room T =
     let s = r.state in
     let K = step_kept s h room T.whole in
-    let a : (step_of s h (length room)).answer ≡ (Rule.step q.state h room).answer = answers s h room T.whole ∙ ap (λ (x : Rules.State). (Rule.step x h room).answer) T.same in
+    let a : (step_of s h (length room)).answer ≡ (Rule.step q.state h room).answer = step_answered s h room T.whole ∙ ap (λ (x : Rules.State). (Rule.step x h room).answer) T.same in
     let b : step_room s h room ≡ (Rule.step q.state h room).room = K.room_same ∙ ap (λ (x : Rules.State). (Rule.step x h room).room) T.same in
     record {
       whole = K.kept.whole;
@@ -73,9 +77,6 @@ step_together r q h room T =
       arrivals = T.arrivals;
     }
   where
-    answers : (s : State) (h : ℕ) (room : List ℕ) → Whole s → (step_of s h (length room)).answer ≡ (Rule.step (view s) h room).answer
-    answers s h room W = unfold step_of Rule.step in (step_same s h (length room) W)
-
     more : (x y : Answer) (rs qs : List Record) (u v : List ℕ) → x ≡ y → rs ≡ qs → u ≡ v
         → (if is_done x then rs ++ (read_record u ∷ []) else rs) ≡ (if is_done y then qs ++ (read_record v ∷ []) else qs)
     more x y rs qs u v e f g = rw (e, f, g)
@@ -140,12 +141,6 @@ module _ (rows : List Row) (m : ℕ) where
             let n = ap (λ (s : Rules.State). s.now) (step_kept r.state h room W).kept.same in
             (step_answered r.state h room W ∙ x.0, omega (arith, n, x.1), omega (arith, n, x.2));
       }
-    where
-      arrive_answered : (s : State) (task : ℕ) → Whole s → (arrive_of s task).answer ≡ (Rule.arrive (view s) task).answer
-      arrive_answered s task W = unfold arrive_of Rule.arrive in (arrive_same s task W)
-
-      step_answered : (s : State) (h : ℕ) (room : List ℕ) → Whole s → (step_of s h (length room)).answer ≡ (Rule.step (view s) h room).answer
-      step_answered s h room W = unfold step_of Rule.step in (step_same s h (length room) W)
 
 -- an arrival once taken stays among the arrivals
 still_in : (x : Runs.Arrival) (r : Calls) (c : Call) → In x r.arrivals → In x (calling r c).arrivals
@@ -163,15 +158,10 @@ unfolding calling_all
 all_in x [] r i = i
 all_in x (c ∷ cs) r i = all_in x cs (calling r c) (still_in x r c i)
 
-all_split : (cs ds : List Call) (r : Calls) → calling_all r (cs ++ ds) ≡ calling_all (calling_all r cs) ds
-unfolding calling_all
-all_split [] ds r = refl
-all_split (c ∷ cs) ds r = all_split cs ds (calling r c)
-
 pub taken_in : (start : Calls) (before : List Call) (task : ℕ) → (arrive_of (calling_all start before).state task).answer ≡ Done → (later : List Call)
     → In (record { task = task; tick = tick_at (calling_all start before).state }) (calling_all start (before ++ arrive_call task ∷ later)).arrivals
 taken_in start before task d later =
-    subst (λ (r : Calls). In x r.arrivals) (sym (all_split before (arrive_call task ∷ later) start)) (unfold calling_all in (all_in x later (calling r (arrive_call task)) here))
+    unfold calling_all in (subst (λ (r : Calls). In x r.arrivals) (sym (all_split calling start before (arrive_call task ∷ later))) (all_in x later (calling r (arrive_call task)) here))
   where
     r : Calls
     r = calling_all start before

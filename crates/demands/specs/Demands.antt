@@ -4,8 +4,7 @@ use mathlib.Core.List.{List, [], ◌∷◌, ◌++◌, foldl, map}
 use Rattle.ground.specs.Tests.{Says}
 use Rattle.rules.specs.Table.{Row, rows_of, table_bytes}
 use Rattle.rules.specs.State.{at}
-use Rattle.rules.specs.declared.Answer.TheVariants.{Done, NotTogether}
-use Rattle.rules.specs.Answers.{is_done, number_of}
+use Rattle.rules.specs.Answers.{Done, NotTogether, is_done, number_of}
 use Rattle.rules.specs.Admission.{admit}
 use Rattle.rules.specs.Record.{Record, read_record}
 use Rattle.rules.specs.Calls.{arrive, step}

@@ -1,8 +1,7 @@
 // Long courses of arrivals and steps, with demand 3 read off their records.
-ghost use Rattle.std.specs.Prelude.{◌≡◌, ◌*◌, ◌≤◌, length};
-
-use crate::numbers::{at_most, plus};
+use rules::Refusal;
 use state::State;
+use table::Row;
 
 // One arrival in so many is called, or with 0 each as soon as it may; a horizon lies 1 to `stride` ticks ahead; so many
 // horizons; by step or by run.
@@ -14,164 +13,47 @@ pub(crate) struct Plan {
     pub stepwise: bool,
 }
 
-// THE BOOK of a course, 512 numbers, first those that its line has: records and their checksum; arrivals taken, refused by 9,
-// refused else; jobs whose running time is known by demand 3, and those that differ; records that do not follow the last one
-// or do not move time; tasks in two slots of a record, or of no row.
-const RECORDS: usize = 0;
-
-const SUM: usize = 1;
-
-const TAKEN: usize = 2;
-
-const SOON: usize = 3;
-
-const ELSE: usize = 4;
-
-const COMPARED: usize = 5;
-
-const DIFFER: usize = 6;
-
-const GAPS: usize = 7;
-
-const TWICE: usize = 8;
-// The end of the last record, the tick of the horizon, the last pseudo-random number.
-const END: usize = 9;
-
-const TICK: usize = 10;
-
-const DRAW: usize = 11;
-// By row: how long the job has run, the tick of its arrival plus 1 or 0, the number of the last record that shows it.
-const RAN: usize = 128;
-
-const SINCE: usize = 256;
-
-const SEEN: usize = 384;
-
-// Lent once, an array shows its length to the proof.
-fn lend(_book: &[u64]) {}
-
-fn at(book: &[u64; 512], i: usize) -> u64 {
-    if i < 512 {
-        return book[i];
-    }
-    0
+// The job of a row: how long it has run, the tick of its arrival, the number of the last record that shows it.
+#[derive(Clone, Copy)]
+struct Job {
+    ran: u64,
+    came: Option<u64>,
+    seen: u64,
 }
 
-fn put(book: &mut [u64; 512], i: usize, x: u64) {
-    lend(book);
-    if i < 512 {
-        book[i] = x;
-    }
-}
-
-fn add(book: &mut [u64; 512], i: usize, x: u64) {
-    put(book, i, plus(at(book, i), x));
+// The book of a course: records and their checksum; arrivals taken, refused as too soon, refused else; jobs whose running time
+// is known by demand 3, and those that differ; records that do not follow the last one or do not move time; tasks in two slots
+// of a record, or of no row. Then the end of the last record, the tick of the horizon, the last pseudo-random number; the jobs.
+#[derive(Clone, Copy)]
+pub(crate) struct Book {
+    records: u64,
+    sum: u64,
+    taken: u64,
+    soon: u64,
+    others: u64,
+    compared: u64,
+    differ: u64,
+    gaps: u64,
+    twice: u64,
+    end: u64,
+    tick: u64,
+    draw: u64,
+    jobs: [Job; 128],
 }
 
 // One more, where something is so.
-fn tell(book: &mut [u64; 512], i: usize, so: bool) {
-    if so {
-        add(book, i, 1);
-    }
-}
-
-// The next pseudo-random number.
-fn drawn(book: &mut [u64; 512]) -> u64 {
-    let x = (at(book, DRAW) % 2147483648 * 1103515245 + 12345) % 2147483648;
-    put(book, DRAW, x);
-    x
-}
-
-// One of n numbers from 0 on, by a pseudo-random one.
-fn pick(x: u64, n: u64) -> u64 {
-    if n == 0 {
-        return 0;
-    }
-    x / 65536 % n
-}
-
-// RECORDS
-
-// A task stands in a slot for so many sub-ticks.
-fn seat(book: &mut [u64; 512], task: u64, len: u64) {
-    if task == 0 {
-        return;
-    }
-    if 128 < task {
-        add(book, TWICE, 1);
-        return;
-    }
-    let i = (task - 1) as usize;
-    let number = at(book, RECORDS);
-    tell(book, TWICE, at(book, SEEN + i) == number);
-    put(book, SEEN + i, number);
-    add(book, RAN + i, len);
-}
-
-// The sixteen slots of a record.
-fn seats(book: &mut [u64; 512], bytes: &[u8], len: u64)
-    requires whole { length bytes.now ≡ 48 }
-{
-    let mut k: usize = 0;
-    while k < 16 {
-        seat(book, ground::get(bytes, 16 + 2 * k, 2), len);
-        k += 1;
-    }
-}
-
-// The length of a record; 0 where it does not move time.
-fn length_of(from: u64, to: u64) -> u64 {
-    if from < to {
-        return to - from;
-    }
-    0
-}
-
-fn record(book: &mut [u64; 512], bytes: &[u8])
-    requires whole { length bytes.now ≡ 48 }
-{
-    let from = ground::get(bytes, 0, 8);
-    let to = ground::get(bytes, 8, 8);
-    let len = length_of(from, to);
-    add(book, RECORDS, 1);
-    tell(book, GAPS, from != at(book, END));
-    tell(book, GAPS, len == 0);
-    put(book, END, to);
-    seats(book, bytes, len);
-}
-
-// A checksum with one byte more.
-fn mix(sum: u64, b: u8) -> u64 {
-    (sum % 4294967291 * 1000003 + b as u64 + 1) % 4294967291
+fn tell(count: &mut u64, so: bool) {
+    *count = count.saturating_add(u64::from(so));
 }
 
 // A checksum with these bytes.
 fn digest(bytes: &[u8], start: u64) -> u64 {
     let mut sum = start;
-    let mut i: usize = 0;
-    while i < bytes.len() {
-        sum = mix(sum, bytes[i]);
-        i += 1;
+    for b in bytes {
+        sum = (sum % 4294967291 * 1000003 + u64::from(*b) + 1) % 4294967291;
     }
     sum
 }
-
-// The first n records of the room.
-fn all_records(book: &mut [u64; 512], room: &[u8], n: usize)
-    requires held { (n ≤ 64) × (48 * n ≤ length room.now) }
-{
-    let mut i: usize = 0;
-    while i < n {
-        let from = 48 * i;
-        let to = from + 48;
-        let one = &room[from..to];
-        put(book, SUM, digest(one, at(book, SUM)));
-        record(book, one);
-        i += 1;
-    }
-}
-
-// STEPS
 
 // What a call leaves: the state, how many records it wrote, and whether the horizon may lie ahead yet.
 #[derive(Clone, Copy)]
@@ -182,196 +64,247 @@ struct Went {
 }
 
 // A step, or a run of at most 64 records.
-fn go(s: State, horizon: u64, stepwise: bool, room: &mut [u8]) -> Went {
+fn go(s: State, horizon: u64, stepwise: bool, room: &mut [u8; 3072]) -> Went {
     if !stepwise {
         let r = calls::run(s, horizon, room);
-        let state = r.state;
         return Went {
-            state: state,
+            state: r.state,
             records: r.records,
             more: r.records == 64,
         };
     }
     let r = calls::step(s, horizon, room);
-    let answer = r.answer;
-    let state = r.state;
-    let done = table::is_done(answer);
+    let done = r.answer.is_ok();
     Went {
-        state: state,
-        records: done as usize,
+        state: r.state,
+        records: usize::from(done),
         more: done,
     }
-}
-
-// Such a call, and its records.
-fn part(s: State, stepwise: bool, book: &mut [u64; 512]) -> Went {
-    let mut room = [0u8; 3072];
-    let w = go(s, at(book, TICK), stepwise, &mut room);
-    all_records(book, &room, at_most(w.records, 64));
-    w
-}
-
-// To the horizon, in at most 100,000 parts.
-fn reach(s: State, stepwise: bool, book: &mut [u64; 512]) -> State {
-    let mut state = s;
-    let mut left: u64 = 100000;
-    while 0 < left {
-        left -= 1;
-        let w = part(state, stepwise, book);
-        state = w.state;
-        if !w.more {
-            return state;
-        }
-    }
-    state
-}
-
-// ARRIVALS
-
-// Does row i arrive? With chance 0 as soon as its period is over; else by chance, whether it is or not.
-fn called(book: &mut [u64; 512], i: usize, period: u32, chance: u64) -> bool
-    requires few { i ≤ 128 }
-{
-    let x = drawn(book);
-    if 0 < chance {
-        return pick(x, chance) == 0;
-    }
-    let came = at(book, SINCE + i);
-    if came == 0 {
-        return true;
-    }
-    plus(came, period as u64) <= plus(at(book, TICK), 1)
-}
-
-// The answer to an arrival of row i. A job that begins has run nothing.
-fn answered(book: &mut [u64; 512], i: usize, number: u32)
-    requires few { i ≤ 128 }
-{
-    if number == 9 {
-        add(book, SOON, 1);
-        return;
-    }
-    if number != 0 {
-        add(book, ELSE, 1);
-        return;
-    }
-    add(book, TAKEN, 1);
-    put(book, RAN + i, 0);
-    put(book, SINCE + i, plus(at(book, TICK), 1));
-}
-
-// Row i arrives.
-fn arrive(s: State, i: usize, book: &mut [u64; 512]) -> State
-    requires few { i ≤ 128 }
-{
-    let a = calls::arrive(s, (i + 1) as u64);
-    let answer = a.answer;
-    answered(book, i, rules::number(answer));
-    a.state
-}
-
-// Perhaps each row arrives.
-fn arrivals(s: State, chance: u64, book: &mut [u64; 512]) -> State {
-    let held = s.table;
-    let period = held.period;
-    let n = at_most(held.count, 128);
-    let mut state = s;
-    let mut i: usize = 0;
-    while i < n {
-        if called(book, i, period[i], chance) {
-            state = arrive(state, i, book);
-        }
-        i += 1;
-    }
-    state
-}
-
-// DEMAND 3
-
-// The product of two numbers below 2^32, and 0 for others.
-fn times(a: u64, b: u64) -> u64 {
-    if 4294967295 < a {
-        return 0;
-    }
-    if 4294967295 < b {
-        return 0;
-    }
-    a * b
 }
 
 // What a job of e in q has run after so many ticks: e ticks after q ticks and later; before that, at a plane's end, e times
 // the ticks gone, divided by q.
 fn right(e: u64, q: u64, scale: u64, gone: u64) -> u64 {
     if q <= gone {
-        return times(e, scale);
+        return e.saturating_mul(scale);
     }
-    times(times(e, scale / q), gone)
+    e.saturating_mul(scale / q).saturating_mul(gone)
 }
 
-// The job of row i, if it has one and what it has run is known.
-fn judge(book: &mut [u64; 512], i: usize, e: u64, q: u64, scale: u64, going: bool)
-    requires few { i ≤ 128 }
-{
-    let came = at(book, SINCE + i);
-    if came == 0 {
-        return;
-    }
-    let present = at(book, TICK);
-    if present < came {
-        return;
-    }
-    let gone = present - came + 1;
-    if going {
-        if gone < q {
-            return;
+impl Book {
+    // The book before a course.
+    fn new() -> Book {
+        let job = Job {
+            ran: 0,
+            came: None,
+            seen: 0,
+        };
+        Book {
+            records: 0,
+            sum: 0,
+            taken: 0,
+            soon: 0,
+            others: 0,
+            compared: 0,
+            differ: 0,
+            gaps: 0,
+            twice: 0,
+            end: 0,
+            tick: 0,
+            draw: 1,
+            jobs: [job; 128],
         }
     }
-    add(book, COMPARED, 1);
-    tell(book, DIFFER, at(book, RAN + i) != right(e, q, scale, gone));
-}
 
-// The jobs of all rows.
-fn judge_all(s: State, book: &mut [u64; 512]) {
-    let held = s.table;
-    let period = held.period;
-    let exec = held.exec;
-    let deadline = held.deadline;
-    let n = at_most(held.count, 128);
-    let mut i: usize = 0;
-    while i < n {
-        let q = table::shorter(period[i], deadline[i]);
-        judge(
-            book,
-            i,
-            ground::wide_word(exec[i]),
-            ground::wide_word(q),
-            held.scale,
-            s.going,
-        );
-        i += 1;
+    // What its line has.
+    pub(crate) fn figures(&self) -> [u64; 9] {
+        [
+            self.records,
+            self.sum,
+            self.taken,
+            self.soon,
+            self.others,
+            self.compared,
+            self.differ,
+            self.gaps,
+            self.twice,
+        ]
     }
-}
 
-// COURSES
+    // One of n numbers from 0 on, by the next pseudo-random one.
+    fn drawn(&mut self, n: u64) -> u64 {
+        self.draw = (self.draw % 2147483648 * 1103515245 + 12345) % 2147483648;
+        if n == 0 {
+            return 0;
+        }
+        self.draw / 65536 % n
+    }
 
-// The next horizon.
-fn onward(book: &mut [u64; 512], stride: u64) {
-    let x = drawn(book);
-    add(book, TICK, plus(pick(x, stride), 1));
+    // RECORDS
+
+    // A task stands in a slot for so many sub-ticks.
+    fn seat(&mut self, task: u64, len: u64) {
+        if task == 0 {
+            return;
+        }
+        if 128 < task {
+            tell(&mut self.twice, true);
+            return;
+        }
+        let i = (task - 1) as usize;
+        let job = self.jobs[i];
+        tell(&mut self.twice, job.seen == self.records);
+        self.jobs[i] = Job {
+            ran: job.ran.saturating_add(len),
+            came: job.came,
+            seen: self.records,
+        };
+    }
+
+    // A record and its sixteen slots.
+    fn record(&mut self, bytes: &[u8; 48]) {
+        let from = ground::get(bytes, 0, 8);
+        let to = ground::get(bytes, 8, 8);
+        let len = to.saturating_sub(from);
+        tell(&mut self.records, true);
+        tell(&mut self.gaps, from != self.end);
+        tell(&mut self.gaps, len == 0);
+        self.end = to;
+        for k in 0..16 {
+            self.seat(ground::get(bytes, 16 + 2 * k, 2), len);
+        }
+    }
+
+    // The first n records of the room.
+    fn all_records(&mut self, room: &[u8; 3072], n: usize) {
+        let (records, _) = room.as_chunks::<48>();
+        for one in records.iter().take(n) {
+            self.sum = digest(one, self.sum);
+            self.record(one);
+        }
+    }
+
+    // STEPS
+
+    // A step, or a run of at most 64 records, and its records.
+    fn part(&mut self, s: State, stepwise: bool) -> Went {
+        let mut room = [0u8; 3072];
+        let w = go(s, self.tick, stepwise, &mut room);
+        self.all_records(&room, w.records);
+        w
+    }
+
+    // To the horizon, in at most 100,000 parts.
+    fn reach(&mut self, s: State, stepwise: bool) -> State {
+        let mut state = s;
+        for _ in 0..100000 {
+            let w = self.part(state, stepwise);
+            state = w.state;
+            if !w.more {
+                return state;
+            }
+        }
+        state
+    }
+
+    // ARRIVALS
+
+    // Does a row arrive? With chance 0 as soon as its period is over; else by chance, whether it is or not.
+    fn called(&mut self, came: Option<u64>, period: u32, chance: u64) -> bool {
+        let x = self.drawn(chance);
+        if 0 < chance {
+            return x == 0;
+        }
+        match came {
+            None => true,
+            Some(tick) => tick.saturating_add(u64::from(period)) <= self.tick,
+        }
+    }
+
+    // The answer to an arrival; the row's job then: one that begins has run nothing.
+    fn answered(&mut self, job: Job, answer: Result<(), Refusal>) -> Job {
+        match answer {
+            Ok(()) => {
+                tell(&mut self.taken, true);
+                Job {
+                    ran: 0,
+                    came: Some(self.tick),
+                    seen: job.seen,
+                }
+            }
+            Err(Refusal::TooSoon) => {
+                tell(&mut self.soon, true);
+                job
+            }
+            Err(_) => {
+                tell(&mut self.others, true);
+                job
+            }
+        }
+    }
+
+    // Perhaps each row arrives.
+    fn arrivals(&mut self, s: State, chance: u64) -> State {
+        let mut state = s;
+        for i in 0..s.table.count.min(128) {
+            let job = self.jobs[i];
+            if self.called(job.came, s.table.period[i], chance) {
+                let a = calls::arrive(state, i as u64 + 1);
+                state = a.state;
+                self.jobs[i] = self.answered(job, a.answer);
+            }
+        }
+        state
+    }
+
+    // DEMAND 3
+
+    // The job of a row, if it has one and what it has run is known.
+    fn judge(&mut self, job: Job, row: Row, scale: u64, going: bool) {
+        let Some(came) = job.came else {
+            return;
+        };
+        let e = u64::from(row.exec);
+        let q = u64::from(row.shorter());
+        let gone = self.tick.saturating_sub(came);
+        if gone == 0 || going && gone < q {
+            return;
+        }
+        tell(&mut self.compared, true);
+        tell(&mut self.differ, job.ran != right(e, q, scale, gone));
+    }
+
+    // The jobs of all rows.
+    fn judge_all(&mut self, s: State) {
+        let t = s.table;
+        for i in 0..t.count.min(128) {
+            let row = Row {
+                period: t.period[i],
+                exec: t.exec[i],
+                deadline: t.deadline[i],
+            };
+            self.judge(self.jobs[i], row, t.scale, s.going);
+        }
+    }
+
+    // COURSES
+
+    // The next horizon.
+    fn onward(&mut self, stride: u64) {
+        let ahead = self.drawn(stride);
+        self.tick = self.tick.saturating_add(ahead).saturating_add(1);
+    }
 }
 
 // The book of a course, from a state at instant 0: arrivals, then steps to a horizon, then the comparison there, and again.
-pub(crate) fn course(first: State, p: Plan) -> [u64; 512] {
-    let mut book = [0u64; 512];
-    put(&mut book, DRAW, 1);
+pub(crate) fn course(first: State, p: Plan) -> Book {
+    let mut book = Book::new();
     let mut state = first;
-    let mut left = p.stops;
-    while 0 < left {
-        left -= 1;
-        let started = arrivals(state, p.chance, &mut book);
-        onward(&mut book, p.stride);
-        state = reach(started, p.stepwise, &mut book);
-        judge_all(state, &mut book);
+    for _ in 0..p.stops {
+        let started = book.arrivals(state, p.chance);
+        book.onward(p.stride);
+        state = book.reach(started, p.stepwise);
+        book.judge_all(state);
     }
     book
 }

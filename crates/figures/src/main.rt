@@ -4,10 +4,8 @@
 
 mod course;
 mod damage;
-mod numbers;
 mod orders;
 mod say;
-mod words;
 
 use std::io;
 

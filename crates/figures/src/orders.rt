@@ -11,131 +11,79 @@
 //   10 keep                keep the state
 //   11 back                take the state that was kept
 //   12 ask: NAME           what an arrival of task 1 and a step to tick 3 answer; then back
-ghost use Rattle.std.specs.Prelude.{◌≡◌, ◌+◌, ◌≤◌, length};
-ghost use Rattle.ground.specs.Bytes.{le, pasted};
-
-use crate::numbers::{at_most, plus};
-use crate::words::same;
+use crate::course::Plan;
 use crate::{course, damage, say};
 use admission::Admitted;
-use calls::Stepped;
-use course::Plan;
 use reading::place_of;
-use rules::Answer;
+use rules::Refusal;
 use state::State;
 use std::io;
 
 // BYTES
 
-// The number of so many bytes at a place, or 0 where there is no such place.
-fn number(bytes: &[u8], at: usize, width: usize) -> u64 {
-    if bytes.len() < at {
-        return 0;
-    }
-    if 8 < width {
-        return 0;
-    }
-    if bytes.len() - at < width {
-        return 0;
-    }
-    ground::get(bytes, at, width)
+// How many of the bytes are no longer 255.
+fn touched(bytes: &[u8]) -> u64 {
+    bytes.iter().filter(|b| **b != 255).count() as u64
 }
 
-// A number of so many bytes at a place, where there is such a place.
-fn set(bytes: &mut [u8], at: usize, width: usize, x: u64)
-    ensures is { at + width ≤ length bytes.old → bytes.new ≡ pasted bytes.old at (le width x) }
-{
-    if bytes.len() < at {
-        return;
-    }
-    if bytes.len() - at < width {
-        return;
-    }
-    ground::put(bytes, at, x, width);
-}
-
-// How many of the bytes from a place up to another are no longer 255.
-fn changed(bytes: &[u8], from: usize, to: usize) -> u64 {
-    let mut n: u64 = 0;
-    let mut i = from;
-    while i < to {
-        if number(bytes, i, 1) != 255 {
-            n = plus(n, 1);
-        }
-        i += 1;
-    }
-    n
+// The same of the first 48 bytes of a room, and of the others.
+fn changed(room: &[u8; 60]) -> [u64; 2] {
+    [touched(&room[..48]), touched(&room[48..])]
 }
 
 // TABLES
 
-// n rows after the first bytes, as long as there is room for 12 bytes; how many bytes there are then.
-fn rows(table: &mut [u8], len: usize, n: u64, p: u64, e: u64, d: u64) -> usize {
-    let mut left = n;
+// A row P E D at a place, where there is room for 12 bytes; the place after it.
+fn put_row(table: &mut [u8; 1548], at: usize, row: [u64; 3]) -> usize {
+    if 1536 < at {
+        return at;
+    }
+    ground::put(table, at, row[0], 4);
+    ground::put(table, at + 4, row[1], 4);
+    ground::put(table, at + 8, row[2], 4);
+    at + 12
+}
+
+// n rows after the first bytes; how many bytes there are then.
+fn rows(table: &mut [u8; 1548], len: usize, n: u64, row: [u64; 3]) -> usize {
     let mut at = len;
-    while 0 < left {
-        left -= 1;
-        at = row(table, at, p, e, d);
+    for _ in 0..n {
+        at = put_row(table, at, row);
     }
     at
 }
 
-fn row(table: &mut [u8], at: usize, p: u64, e: u64, d: u64) -> usize {
-    if 1536 < at {
-        return at;
-    }
-    set(table, at, 4, p);
-    set(table, at + 4, 4, e);
-    set(table, at + 8, 4, d);
-    at + 12
-}
-
 // ANSWERS
 
-fn number_of(answer: Answer) -> u64 {
-    rules::number(answer) as u64
+fn number_of(answer: Result<(), Refusal>) -> u64 {
+    u64::from(rules::number(answer))
 }
 
 // What an arrival of task 1 and a step to tick 3 answer.
 fn asked(s: State) -> [u64; 2] {
-    let a = calls::arrive(s, 1);
-    let arrived = a.answer;
     let mut room = [0u8; 48];
+    let a = calls::arrive(s, 1);
     let r = calls::step(s, 3, &mut room);
-    let stepped = r.answer;
-    [number_of(arrived), number_of(stepped)]
+    [number_of(a.answer), number_of(r.answer)]
 }
 
 fn ask(out: &impl Print, s: State, name: &[u8]) -> io::Result<()> {
-    let n = asked(s);
-    say::form(out, b"@: arrive # step #\n", name, &n)
+    say::form(out, b"@: arrive # step #\n", name, &asked(s))
 }
 
 // Admission of the table's first bytes.
-fn admitted(table: &[u8], len: usize, m: usize) -> Admitted {
-    let from: usize = 0;
-    if len <= table.len() {
-        return admission::admit(&table[from..len], m);
-    }
-    admission::admit(table, m)
+fn admitted(table: &[u8; 1548], len: usize, m: usize) -> Admitted {
+    admission::admit(&table[..len.min(1548)], m)
 }
 
 // The line of an admission: number and row, then the scale or what the blank state answers.
-fn admit_line(
-    out: &impl Print,
-    s: State,
-    m: usize,
-    answer: u64,
-    row: usize,
-    name: &[u8],
-) -> io::Result<()> {
-    if answer == 0 {
-        let held = s.table;
-        let n = [m as u64, held.scale];
+fn admit_line(out: &impl Print, r: Admitted, m: u64, name: &[u8]) -> io::Result<()> {
+    if r.answer.is_ok() {
+        let n = [m, r.state.table.scale];
         return say::form(out, b"admit @, m #: 0 row 0 scale #\n", name, &n);
     }
-    let blank = asked(s);
-    let n = [m as u64, answer, row as u64, blank[0], blank[1]];
+    let blank = asked(r.state);
+    let n = [m, number_of(r.answer), r.row as u64, blank[0], blank[1]];
     say::form(
         out,
         b"admit @, m #: # row #, then arrive # step #\n",
@@ -144,51 +92,43 @@ fn admit_line(
     )
 }
 
-fn admit(out: &impl Print, table: &[u8], len: usize, m: usize, name: &[u8]) -> io::Result<State> {
-    let r = admitted(table, len, m);
-    let answer = r.answer;
-    let state = r.state;
-    if 0 < name.len() {
-        admit_line(out, state, m, number_of(answer), r.row, name)?;
+fn admit(
+    out: &impl Print,
+    table: &[u8; 1548],
+    len: usize,
+    m: u64,
+    name: &[u8],
+) -> io::Result<State> {
+    let r = admitted(table, len, m as usize);
+    if !name.is_empty() {
+        admit_line(out, r, m, name)?;
     }
-    Ok(state)
+    Ok(r.state)
 }
 
 fn arrive(out: &impl Print, s: State, task: u64, name: &[u8]) -> io::Result<State> {
     let r = calls::arrive(s, task);
-    let answer = r.answer;
-    let state = r.state;
-    let present = state.now;
-    let n = [task, number_of(answer), present.0];
-    if name.len() == 0 {
+    let n = [task, number_of(r.answer), r.state.now.0];
+    if name.is_empty() {
         say::form(out, b"arrive #: #\n", name, &n)?;
-        return Ok(state);
+    } else {
+        say::form(out, b"@: arrive #: #, present #\n", name, &n)?;
     }
-    say::form(out, b"@: arrive #: #, present #\n", name, &n)?;
-    Ok(state)
-}
-
-// A step into the first bytes of a room.
-fn stepped(s: State, horizon: u64, room: &mut [u8], len: usize) -> Stepped {
-    let from: usize = 0;
-    if len <= room.len() {
-        return calls::step(s, horizon, &mut room[from..len]);
-    }
-    calls::step(s, horizon, room)
+    Ok(r.state)
 }
 
 // The line of a step without a name: its answer, and its record.
 fn record_line(
     out: &impl Print,
     horizon: u64,
-    r: u64,
+    answer: Result<(), Refusal>,
     room: &[u8; 60],
     m: usize,
 ) -> io::Result<()> {
-    let n = [horizon, r];
-    if r == 0 {
+    let n = [horizon, number_of(answer)];
+    if answer.is_ok() {
         let mut line = [0u8; 138];
-        let k = print::put_records(&mut line, room, 1, at_most(m, 16));
+        let k = print::put_records(&mut line, room, 1, m.min(16));
         return say::form(out, b"step #: #, @", &line[..k], &n);
     }
     say::form(out, b"step #: #\n", b"", &n)
@@ -197,23 +137,20 @@ fn record_line(
 // A step into so many of 60 bytes 255; with a name, how many of the first 48 bytes and of the others it changed.
 fn step(out: &impl Print, s: State, horizon: u64, len: u64, name: &[u8]) -> io::Result<State> {
     let mut room = [255u8; 60];
-    let r = stepped(s, horizon, &mut room, len as usize);
-    let answer = r.answer;
-    let state = r.state;
-    let number = number_of(answer);
-    if name.len() == 0 {
-        let held = state.table;
-        record_line(out, horizon, number, &room, held.m)?;
-        return Ok(state);
+    let given = (len as usize).min(60);
+    let r = calls::step(s, horizon, &mut room[..given]);
+    if name.is_empty() {
+        record_line(out, horizon, r.answer, &room, r.state.table.m)?;
+        return Ok(r.state);
     }
-    let present = state.now;
+    let [record, rest] = changed(&room);
     let n = [
         horizon,
         len,
-        number,
-        changed(&room, 0, 48),
-        changed(&room, 48, 60),
-        present.0,
+        number_of(r.answer),
+        record,
+        rest,
+        r.state.now.0,
     ];
     say::form(
         out,
@@ -221,32 +158,30 @@ fn step(out: &impl Print, s: State, horizon: u64, len: u64, name: &[u8]) -> io::
         name,
         &n,
     )?;
-    Ok(state)
+    Ok(r.state)
 }
 
 // A run of at most 5,461 records.
 fn run(out: &impl Print, s: State, tick: u64) -> io::Result<State> {
     let mut room = [0u8; 262144];
     let r = calls::run(s, tick, &mut room);
-    let state = r.state;
-    let present = state.now;
-    let n = [tick, r.records as u64, present.0, state.end];
-    if state.going {
+    let n = [tick, r.records as u64, r.state.now.0, r.state.end];
+    if r.state.going {
         say::form(
             out,
             b"run to #: records #, present #, plane open to #\n",
             b"",
             &n,
         )?;
-        return Ok(state);
+    } else {
+        say::form(
+            out,
+            b"run to #: records #, present #, plane closed\n",
+            b"",
+            &n,
+        )?;
     }
-    say::form(
-        out,
-        b"run to #: records #, present #, plane closed\n",
-        b"",
-        &n,
-    )?;
-    Ok(state)
+    Ok(r.state)
 }
 
 // A course from the state.
@@ -262,7 +197,7 @@ fn course_from(out: &impl Print, s: State, n: [u64; 6], name: &[u8]) -> io::Resu
         out,
         b"course @: records # sum #, arrivals #, refused 9 #, refused else #, jobs compared #, differ #, gaps #, twice #\n",
         name,
-        &book,
+        &book.figures(),
     )
 }
 
@@ -270,214 +205,132 @@ fn course_from(out: &impl Print, s: State, n: [u64; 6], name: &[u8]) -> io::Resu
 
 // The number that v and one digit more spell; from 18,446,744,073,709,551,610 on the largest. Other bytes leave v.
 fn spelled(v: u64, b: u8) -> u64 {
-    if b < 48 {
-        return v;
+    match b {
+        b'0'..=b'9' => {
+            if 1844674407370955160 < v {
+                return u64::MAX;
+            }
+            10 * v + u64::from(b - b'0')
+        }
+        _ => v,
     }
-    if 57 < b {
-        return v;
-    }
-    if 1844674407370955160 < v {
-        return 18446744073709551615;
-    }
-    10 * v + (b - 48) as u64
-}
-
-// The place of the number that a byte belongs to, after one that belongs to the kth.
-fn place(k: usize, b: u8) -> usize
-    ensures within { result ≤ 5 }
-{
-    if 5 <= k {
-        return 5;
-    }
-    if b == 32 {
-        return k + 1;
-    }
-    k
 }
 
 // The numbers of an order: place k has that after the kth space.
 fn numbers_of(s: &[u8]) -> [u64; 6] {
     let mut n = [0u64; 6];
     let mut k: usize = 0;
-    let mut i: usize = 0;
-    while i < s.len() {
-        let b = s[i];
-        k = place(k, b);
-        n[k] = spelled(n[k], b);
-        i += 1;
+    for b in s {
+        if *b == b' ' {
+            k = (k + 1).min(5);
+        }
+        n[k] = spelled(n[k], *b);
     }
     n
 }
 
-// The number of the order with this word, or 0.
-fn order_of(word: &[u8]) -> u64 {
-    if same(word, b"table") {
-        return 1;
-    }
-    if same(word, b"rows") {
-        return 2;
-    }
-    if same(word, b"length") {
-        return 3;
-    }
-    if same(word, b"admit") {
-        return 4;
-    }
-    if same(word, b"course") {
-        return 5;
-    }
-    if same(word, b"arrive") {
-        return 6;
-    }
-    if same(word, b"step") {
-        return 7;
-    }
-    if same(word, b"run") {
-        return 8;
-    }
-    if same(word, b"set") {
-        return 9;
-    }
-    if same(word, b"keep") {
-        return 10;
-    }
-    if same(word, b"back") {
-        return 11;
-    }
-    if same(word, b"ask") {
-        return 12;
-    }
-    0
+#[derive(Clone, Copy)]
+enum Order {
+    Table,
+    Rows,
+    Length,
+    Admit,
+    Course,
+    Arrive,
+    Step,
+    Run,
+    Set,
+    Keep,
+    Back,
+    Ask,
 }
 
-// Orders on the table; how many bytes it has then.
-fn obey_table(order: u64, n: [u64; 6], table: &mut [u8], len: usize) -> usize {
-    match order {
-        1 => rows(table, 0, n[1], n[2], n[3], n[4]),
-        2 => rows(table, len, n[1], n[2], n[3], n[4]),
-        3 => n[1] as usize,
-        _ => len,
+// The order with this word.
+fn order_of(word: &[u8]) -> Option<Order> {
+    match word {
+        b"table" => Some(Order::Table),
+        b"rows" => Some(Order::Rows),
+        b"length" => Some(Order::Length),
+        b"admit" => Some(Order::Admit),
+        b"course" => Some(Order::Course),
+        b"arrive" => Some(Order::Arrive),
+        b"step" => Some(Order::Step),
+        b"run" => Some(Order::Run),
+        b"set" => Some(Order::Set),
+        b"keep" => Some(Order::Keep),
+        b"back" => Some(Order::Back),
+        b"ask" => Some(Order::Ask),
+        _ => None,
     }
 }
 
-// Orders that make a state of the table.
-fn obey_both(
-    out: &impl Print,
-    order: u64,
-    n: [u64; 6],
-    name: &[u8],
-    s: State,
-    table: &[u8],
-    len: usize,
-) -> io::Result<State> {
-    if order == 4 {
-        return admit(out, table, len, n[1] as usize, name);
-    }
-    if order == 5 {
-        let r = admitted(table, len, n[1] as usize);
-        course_from(out, r.state, n, name)?;
-    }
-    Ok(s)
-}
-
-// Orders on the state; kept is the state that was kept.
-fn obey_state(
-    out: &impl Print,
-    order: u64,
-    n: [u64; 6],
-    column: &[u8],
-    name: &[u8],
-    s: State,
-    kept: State,
-) -> io::Result<State> {
-    match order {
-        6 => arrive(out, s, n[1], name),
-        7 => step(out, s, n[1], n[2], name),
-        8 => run(out, s, n[1]),
-        9 => Ok(damage::set(s, column, n[2] as usize, n[3])),
-        11 => Ok(kept),
-        12 => {
-            ask(out, s, name)?;
-            Ok(kept)
-        }
-        _ => Ok(s),
-    }
-}
-
-// Where the name begins: after the colon and a space.
-fn name_at(colon: usize, end: usize) -> usize
-    requires inside { colon ≤ end }
-    ensures within { result ≤ end }
-{
-    if end - colon < 2 {
-        return end;
-    }
-    colon + 2
-}
-
-// Where the word after a space begins.
-fn word_at(space: usize, end: usize) -> usize
-    requires inside { space ≤ end }
-    ensures within { result ≤ end }
-{
-    if space < end {
-        return space + 1;
-    }
-    end
-}
-
-// What the orders so far left: the state, the one that was kept, the length of the table.
+// What the orders so far left: the state, the one that was kept, the table and how many bytes it has.
 #[derive(Clone, Copy)]
 struct Held {
     state: State,
     kept: State,
+    table: [u8; 1548],
     len: usize,
 }
 
-// A line: its word ends at the first space, its numbers at the colon.
-fn line(out: &impl Print, s: &[u8], held: Held, table: &mut [u8]) -> io::Result<Held> {
-    let start: usize = 0;
-    let end = s.len();
+// An order with its numbers, a column's name, and the name under which the answer is written.
+fn obey(
+    out: &impl Print,
+    order: Order,
+    n: [u64; 6],
+    column: &[u8],
+    name: &[u8],
+    h: &mut Held,
+) -> io::Result<()> {
+    let row = [n[2], n[3], n[4]];
+    match order {
+        Order::Table => h.len = rows(&mut h.table, 0, n[1], row),
+        Order::Rows => h.len = rows(&mut h.table, h.len, n[1], row),
+        Order::Length => h.len = n[1] as usize,
+        Order::Admit => h.state = admit(out, &h.table, h.len, n[1], name)?,
+        Order::Course => {
+            let r = admitted(&h.table, h.len, n[1] as usize);
+            course_from(out, r.state, n, name)?;
+        }
+        Order::Arrive => h.state = arrive(out, h.state, n[1], name)?,
+        Order::Step => h.state = step(out, h.state, n[1], n[2], name)?,
+        Order::Run => h.state = run(out, h.state, n[1])?,
+        Order::Set => h.state = damage::set(h.state, column, n[2] as usize, n[3]),
+        Order::Keep => h.kept = h.state,
+        Order::Back => h.state = h.kept,
+        Order::Ask => {
+            ask(out, h.state, name)?;
+            h.state = h.kept;
+        }
+    }
+    Ok(())
+}
+
+// A line: its order ends at the colon, a space before the name. The order's parts stand between spaces.
+fn line(out: &impl Print, s: &[u8], h: &mut Held) -> io::Result<()> {
     let colon = place_of(s, b':');
-    let space = place_of(&s[start..colon], b' ');
-    let second = word_at(space, colon);
-    let next = second + place_of(&s[second..colon], b' ');
-    let from = name_at(colon, end);
-    let word = &s[start..space];
-    let column = &s[second..next];
-    let name = &s[from..];
-    let n = numbers_of(&s[start..colon]);
-    let order = order_of(word);
-    let first = held.state;
-    let before = held.kept;
-    let then = obey_state(out, order, n, column, name, first, before)?;
-    let state = obey_both(out, order, n, name, then, table, held.len)?;
-    let kept = if order == 10 { state } else { before };
-    let len = obey_table(order, n, table, held.len);
-    Ok(Held {
-        state: state,
-        kept: kept,
-        len: len,
-    })
+    let name = s.get(colon + 2..).unwrap_or(&[]);
+    let n = numbers_of(&s[..colon]);
+    let mut parts = s[..colon].split(|b| *b == b' ');
+    let word = parts.next().unwrap_or(&[]);
+    let column = parts.next().unwrap_or(&[]);
+    let Some(order) = order_of(word) else {
+        return Ok(());
+    };
+    obey(out, order, n, column, name, h)
 }
 
 // All lines.
-pub(crate) fn all(out: &impl Print, s: &[u8]) -> io::Result<()>
-    requires short { length s.now ≤ 65536 }
-{
-    let mut table = [0u8; 1548];
+pub(crate) fn all(out: &impl Print, s: &[u8]) -> io::Result<()> {
     let blank = admission::admit(b"", 0);
-    let state = blank.state;
     let mut held = Held {
-        state: state,
-        kept: state,
+        state: blank.state,
+        kept: blank.state,
+        table: [0; 1548],
         len: 0,
     };
-    let mut at: usize = 0;
-    while at < s.len() {
-        let end = at + place_of(&s[at..], b'\n');
-        held = line(out, &s[at..end], held, &mut table)?;
-        at = end + 1;
+    for one in s.split(|b| *b == b'\n') {
+        line(out, one, &mut held)?;
     }
     Ok(())
 }

@@ -4,8 +4,10 @@ use mathlib.Core.List.{List, [], ◌∷◌, ◌++◌, append_assoc, append-nil}
 use Prim.Native.Nat.{ℕ, zero, suc, ◌+◌, ◌-◌, ◌*◌, ◌/◌, ◌%◌, ◌≤◌, ◌<◌, ◌^◌}
 use native.Mathlib.Nat.{add-zero, mod-add-div, div-lt_iff_lt-mul, pow-suc, pow-zero, add-mul-div_left, add-mul-mod_self_left, mod-eq_of_lt, div-eq_of_lt, pow-le-pow_right}
 use native.Mathlib.Omega.{arith}
-use lib.ListN.{length, get_or, set, take, drop, length-append, length-drop, take-append-drop}
-use lib.Seq.{sets, sets-eq, take_at, drop-drop, drop-cons, drop-append-add, length-take-le}
+use lib.ListN.{length, get_or, set, take, drop, length-append, length-drop, length-take, take-append-drop}
+use borrow.Rule.Slice.PartMut.{put_mid}
+use Rattle.std.proofs.lemmas.Slice.{put_mid-paste}
+use lib.Seq.{sets, sets-eq, take-length, drop-length, take_at, drop-drop, drop-cons, drop-append-add, length-take-le}
 use Rattle.ground.specs.Bytes.{le, number, pasted}
 
 pub length_le : (n x : ℕ) → length (le n x) ≡ n
@@ -94,22 +96,30 @@ paste_paste l at v w h =
 pub paste_then : (l l' : List ℕ) (at n : ℕ) (v w : List ℕ) → at + length v ≤ length l → l' ≡ pasted l at v → n ≡ at + length v → pasted l' n w ≡ pasted l at (v ++ w)
 paste_then l l' at n v w h e f = ap (λ (x : List ℕ). pasted x n w) e ∙ ap (λ (k : ℕ). pasted (pasted l at v) k w) f ∙ paste_paste l at v w h
 
--- stores one by one are the paste
-pub stored : (l v : List ℕ) (at : ℕ) → at + length v ≤ length l → sets l at v ≡ pasted l at v
-stored l v at h = sets-eq v l at h
-
--- what is left to store of a number's bytes, after one
-pub le_turn : (l : List ℕ) (at i m y : ℕ) → 0 < m
-    → (k : ℕ) × (m ≡ k + 1) × (sets l (at + i) (le m y) ≡ sets (set l (at + i) (y % 256)) (at + (i + 1)) (le k (y / 256)))
+-- A NUMBER'S BYTES, STORED ONE BY ONE
+-- what is left to store, after one; and nothing
+pub le_turn : (l : List ℕ) (i m k y : ℕ) → m ≡ suc k → sets l i (le m y) ≡ sets (set l i (y % 256)) (i + 1) (le k (y / 256))
 unfolding le
-le_turn l at i zero y h = absurd (omega arith)
-le_turn l at i (suc k) y h =
-    let e : suc (at + i) ≡ at + (i + 1) = omega arith in
-    (k, omega arith, ap (λ (n : ℕ). sets (set l (at + i) (y % 256)) n (le k (y / 256))) e)
+le_turn l i m k y e =
+    let s : suc i ≡ i + 1 = omega arith in
+    ap (λ (n : ℕ). sets l i (le n y)) e ∙ ap (λ (n : ℕ). sets (set l i (y % 256)) n (le k (y / 256))) s
 
-pub le_none : (l : List ℕ) (at m y : ℕ) → m ≡ 0 → sets l at (le m y) ≡ l
+pub le_none : (l : List ℕ) (i m y : ℕ) → m ≡ 0 → sets l i (le m y) ≡ l
 unfolding le
-le_none l at m y e = ap (λ (n : ℕ). sets l at (le n y)) e
+le_none l i m y e = ap (λ (n : ℕ). sets l i (le n y)) e
+
+-- the part of so many bytes from a place on
+pub part_long : (l : List ℕ) (at w : ℕ) → at + w ≤ length l → length (take (at + w - at) (drop at l)) ≡ w
+part_long l at w h = omega (arith, length-take (at + w - at) (drop at l), length-drop at l)
+
+-- stored over the whole part, it is the paste
+pub part_stored : (l part v : List ℕ) (at k : ℕ) → length part ≡ k → length v ≡ k → put_mid at k l (sets part 0 v) ≡ pasted l at v
+part_stored l part v at k p q =
+    let all : 0 + length v ≡ length part = omega arith in
+    let whole : sets part 0 v ≡ v =
+    sets-eq v part 0 (omega arith) ∙ ap (λ (n : ℕ). v ++ drop n part) all ∙ ap (λ (x : List ℕ). v ++ x) (drop-length part) ∙ append-nil v in
+    put_mid-paste at k l (sets part 0 v) v (length v) whole q refl
+    ∙ ap (λ (x : List ℕ). take at l ++ x ++ drop (at + length v) l) (take-length v)
 
 -- one more part after those that are there
 pub grown : (p v l : List ℕ) (n : ℕ) → length p ≡ n → n ≤ length l → pasted (p ++ drop n l) n v ≡ (p ++ v) ++ drop (n + length v) l

@@ -55,6 +55,17 @@ unfolding went
 went_none zero h s e = refl
 went_none (suc n) h s e = rw (went, goes_yes (suc n) s.now.0 (h * s.table.scale) (omega arith) ∙ e)
 
+-- the horizon is not ahead
+pub went_past : (n h : ℕ) (s : State) → h * s.table.scale ≤ s.now.0 → went n h s ≡ record { state = s; records = 0; bytes = [] }
+unfolding went
+went_past zero h s p = refl
+went_past (suc n) h s p = rw (went, is_false (ltb s.now.0 (h * s.table.scale)) (ltb_says s.now.0 (h * s.table.scale)) (λ z. omega arith))
+
+-- no room is left
+pub went_full : (n h : ℕ) (s : State) → n ≡ 0 → went n h s ≡ record { state = s; records = 0; bytes = [] }
+unfolding went
+went_full n h s e = rw e
+
 -- a record has 48 bytes
 pub record_48 : (s : State) (h : ℕ) → Whole s → length (record_bytes (moved_of s h).rec) ≡ 48
 unfolding moved_of move_to record_bytes
@@ -86,7 +97,7 @@ pub record Later (s k : State) : Type 0 where
   pub scale : k.table.scale ≡ s.table.scale
 
 -- a step moves the present on
-step_later : (s : State) (h : ℕ) → Whole s → s.now.0 < h * s.table.scale → h ≤ clock → (s.now.0 < (moved_of s h).state.now.0) × ((moved_of s h).state.table.scale ≡ s.table.scale)
+pub step_later : (s : State) (h : ℕ) → Whole s → s.now.0 < h * s.table.scale → h ≤ clock → (s.now.0 < (moved_of s h).state.now.0) × ((moved_of s h).state.table.scale ≡ s.table.scale)
 step_later s h W lt hc =
     let M = moving_moves (view s) h (together_of W) lt in
     let e = (step_whole s h W lt hc).view_is in

@@ -70,7 +70,7 @@ all_chunks (suc n) text c M h =
     ap (λ (l : List ℕ). chunk_of text c ++ l) (all_chunks n text (cursor_of text c) q.1 (less text c n M h)) ∙ q.0
 
 -- at the end nothing is owed
-ended_owes : (text : List ℕ) (c : Cursor) → is_ended c.stage ≡ true → owed text c ≡ []
+pub ended_owes : (text : List ℕ) (c : Cursor) → is_ended c.stage ≡ true → owed text c ≡ []
 unfolding owes printed
 ended_owes text c e = ap printed (go c.stage e)
   where

@@ -1,22 +1,20 @@
 -- The lines of a part are the lines of its entries
-use mathlib.Core.Path.{◌≡◌, refl, sym, ◌∙◌, ap, subst}
+use Rattle.std.specs.Prelude.{Option, Some, None, Err}
+use mathlib.Core.Path.{◌≡◌, refl, sym, ◌∙◌, ap}
 use mathlib.Core.List.{List, [], ◌∷◌, ◌++◌, map}
 use Prim.Native.Nat.{ℕ, zero, suc, ◌+◌, ◌*◌}
 use native.Mathlib.Omega.{arith}
 use lib.ListN.{take, drop}
 use lib.Seq.{take-take, take-nil}
 use Rattle.ground.specs.Bytes.{number}
-use Rattle.ground.proofs.Bytes.{paste_none}
 use Rattle.rules.specs.Record.{Record, slots_from, read_record}
 use Rattle.demands.specs.Demands.{read_records}
-use Rattle.text.specs.Puts.{Put, Counts}
-use Rattle.text.proofs.Puts.{put_as, counted}
-use Rattle.print.specs.Printed.{record_line, record_lines, refused_line}
+use Rattle.print.specs.Printed.{record_line, record_lines}
 use Rattle.output.specs.Course.{scale_entry, record_entry, refused_entry}
 use Rattle.output.specs.Output.{printed}
 use Rattle.output.proofs.Printing.{printed_one}
 use Rattle.course.specs.declared.Part.{Part}
-use Rattle.course.specs.declared.Part.TheVariants.{Scale, Records, Refused, Nothing}
+use Rattle.course.specs.declared.Part.TheVariants.{Scale, Records, Refused}
 use Rattle.course.specs.Owed.{entries_of}
 use Rattle.course.specs.Moves.{MovesBy}
 use Rattle.listing.specs.Listing.{space, PartFits, part_lines}
@@ -52,25 +50,15 @@ records_printed m (suc k) room =
     ap (λ (r : Record). record_line m r ++ record_lines m k (drop 48 room)) (sym (record_take room))
     ∙ ap (λ (l : List ℕ). record_line m (read_record (take 48 room)) ++ l) (records_printed m k (drop 48 room))
 
-pub part_printed : (p : Part) (room : List ℕ) → part_lines p room ≡ printed (entries_of p room)
+pub part_printed : (p : Option Part) (room : List ℕ) → part_lines p room ≡ printed (entries_of p room)
 unfolding printed
-part_printed (Scale scale) room = sym (printed_one (scale_entry scale))
-part_printed (Records k m) room = records_printed m k room
-part_printed (Refused answer line) room = sym (printed_one (refused_entry answer line))
-part_printed Nothing room = refl
+part_printed (Some (Scale scale)) room = sym (printed_one (scale_entry scale))
+part_printed (Some (Records k m)) room = records_printed m k room
+part_printed (Some (Refused refusal line)) room = sym (printed_one (refused_entry (Err refusal) line))
+part_printed None room = refl
 
-pub moves_fit : (p : Part) (before after : ℕ) → MovesBy p before after space → PartFits p
-moves_fit (Records k m) before after h = (h.0, h.1)
-moves_fit (Scale scale) before after h = tt
-moves_fit (Refused answer line) before after h = tt
-moves_fit Nothing before after h = tt
-
--- PUTTING A PART
-pub part_as : (l l' room : List ℕ) (n : ℕ) (p q : Part) → p ≡ q → Put l 0 (part_lines q room) l' n → Put l 0 (part_lines p room) l' n
-part_as l l' room n p q e h = subst (λ (x : Part). Put l 0 (part_lines x room) l' n) (sym e) h
-
-pub put_nothing : (l : List ℕ) → Put l 0 [] l 0 × Counts 0 l
-put_nothing l = ((sym (paste_none l 0), omega arith), counted l 0 (omega arith))
-
-pub refused_as : (l l' : List ℕ) (n x y line : ℕ) → x ≡ y → Put l 0 (refused_line x line) l' n → Put l 0 (refused_line y line) l' n
-refused_as l l' n x y line e h = put_as l l' 0 n (refused_line x line) (refused_line y line) (ap (λ (k : ℕ). refused_line k line) e) h
+pub moves_fit : (p : Option Part) (before after : ℕ) → MovesBy p before after space → PartFits p
+moves_fit (Some (Records k m)) before after h = (h.0, h.1)
+moves_fit (Some (Scale scale)) before after h = tt
+moves_fit (Some (Refused refusal line)) before after h = tt
+moves_fit None before after h = tt

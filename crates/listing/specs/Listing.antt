@@ -1,11 +1,11 @@
 -- THE LISTING OF A TEXT, CHUNK BY CHUNK
-use Rattle.std.specs.Prelude.{◌≡◌, List, [], ◌++◌, ℕ, zero, suc, ◌*◌, ◌≤◌, take, replicate, if◌then◌else◌}
-use Rattle.rules.specs.Answers.{number_of}
+use Rattle.std.specs.Prelude.{◌≡◌, List, [], ◌++◌, ℕ, zero, suc, ◌*◌, ◌≤◌, take, replicate, if◌then◌else◌, Option, Some, None}
+use Rattle.rules.specs.Answers.{refusal_number}
 use Rattle.print.specs.Printed.{scale_line, refused_line, record_lines}
 use Rattle.output.specs.Output.{printed, output_of}
 use Rattle.course.specs.declared.Cursor.{Cursor}
 use Rattle.course.specs.declared.Part.{Part}
-use Rattle.course.specs.declared.Part.TheVariants.{Scale, Records, Refused, Nothing}
+use Rattle.course.specs.declared.Part.TheVariants.{Scale, Records, Refused}
 use Rattle.course.specs.Turns.{first_cursor, is_ended, turn_of, turn_room}
 use Rattle.course.specs.Moves.{left}
 use Rattle.course.specs.Owed.{owes, Made}
@@ -14,18 +14,18 @@ use Rattle.course.specs.Owed.{owes, Made}
 abbrev pub space : ℕ
 space = 22752
 
-abbrev pub PartFits : Part → Type 0
-PartFits (Records k m) = (m ≤ 16) × (48 * k ≤ space)
-PartFits (Scale scale) = Unit {0}
-PartFits (Refused answer line) = Unit {0}
-PartFits Nothing = Unit {0}
+abbrev pub PartFits : Option Part → Type 0
+PartFits (Some (Records k m)) = (m ≤ 16) × (48 * k ≤ space)
+PartFits (Some (Scale scale)) = Unit {0}
+PartFits (Some (Refused refusal line)) = Unit {0}
+PartFits None = Unit {0}
 
 -- the lines of a part; its records are in the room
-abbrev pub part_lines : Part → List ℕ → List ℕ
-part_lines (Scale scale) room = scale_line scale
-part_lines (Records k m) room = record_lines m k room
-part_lines (Refused answer line) room = refused_line (number_of answer) line
-part_lines Nothing room = []
+abbrev pub part_lines : Option Part → List ℕ → List ℕ
+part_lines (Some (Scale scale)) room = scale_line scale
+part_lines (Some (Records k m)) room = record_lines m k room
+part_lines (Some (Refused refusal line)) room = refused_line (refusal_number refusal) line
+part_lines None room = []
 
 -- the next cursor, and what is written on the way
 unfoldable pub cursor_of : List ℕ → Cursor → Cursor

@@ -15,19 +15,21 @@ pub struct Written {
     pub len: usize,
 }
 
-// The lines of a part at the front of the lent bytes; their length.
-fn put_part(out: &mut [u8; 65536], room: &[u8; 22752], part: Part) -> usize
+// The lines of a part, if there is one, at the front of the lent bytes; their length.
+fn put_part(out: &mut [u8; 65536], room: &[u8; 22752], part: Option<Part>) -> usize
     requires fits { PartFits part }
     ensures is { Put out.old 0 (part_lines part room.now) out.new result }
     ensures counts { Counts result out.new }
 {
+    let Some(part) = part else {
+        return 0;
+    };
     match part {
         Part::Scale(scale) => print::put_scale(out, scale),
-        Part::Records(n, m) => print::put_records(out, room, n, m),
-        Part::Refused(answer, line) => {
-            print::put_refused(out, rules::number(answer) as u64, line)
+        Part::Records { count, m } => print::put_records(out, room, count, m),
+        Part::Refused { refusal, line } => {
+            print::put_refused(out, u64::from(u32::from(refusal)), line)
         }
-        Part::Nothing => 0,
     }
 }
 
@@ -40,11 +42,9 @@ pub fn next(text: &[u8], c: Cursor, out: &mut [u8; 65536]) -> Written
 {
     let mut room = [0u8; 22752];
     let t = course::turn(text, c, &mut room);
-    let part = t.part;
-    let cursor = t.cursor;
-    let len = put_part(out, &room, part);
+    let len = put_part(out, &room, t.part);
     Written {
-        cursor: cursor,
-        len: len,
+        cursor: t.cursor,
+        len,
     }
 }

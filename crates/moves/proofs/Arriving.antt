@@ -58,6 +58,9 @@ module _ (s : State) (i : ℕ) (W : Whole s) (C : Comes (view s) i) where
         join_ready (sound_is s W.sound) (running_stands (tasks_at s) P) (omega arith) (end_fits s W on).0 (together_of W).table.processors.0 i (amount_at s i) arrive_row.0
         (ap (λ (c : Rules.Cond). runs_of c + waits_of c) sl) arrive_amount
 
+pub arrive_inside : {s : State} {i : ℕ} → Whole s × Comes (view s) i → i < 128
+arrive_inside {s} {i} p = (arrive_row s i p.0 p.1).1
+
 -- with no plane open the task is simply awake
 pub arrived_off : (s : State) (i : ℕ) → s.going ≡ false → woken s i (tick_at s) ≡ arrived_of s i
 unfolding arrived_of

@@ -1,18 +1,18 @@
 -- What a step asks at the next instant of an open plane, and what it does there
 use Rattle.std.specs.Prelude.{if◌then◌else◌}
 use mathlib.Core.Path.{◌≡◌, sym, ◌∙◌, ap}
-use mathlib.Core.Bool.{true}
+use mathlib.Core.Bool.{true, false}
 use mathlib.Core.Option.{none, some}
-use mathlib.Core.Logic.{◌≢◌}
 use Prim.Native.Nat.{ℕ, ◌*◌, ◌≤◌, ◌<◌}
 use native.Mathlib.Omega.{arith}
-use borrow.Author.Tests.{eq-eqb, ne_eqb}
-use lib.Dec.{lit≤}
+use borrow.Author.Tests.{eq-eqb}
+use Rattle.std.proofs.Math.Arith.{lt_of_le-ne}
+use lib.Dec.{lit≤, eqb}
 use Rattle.table.specs.declared.Table.{Table}
 use Rattle.state.specs.declared.State.{State}
 use Rattle.rules.specs.State.{on}
 use Rattle.rules.proofs.Calls.{open_parts, next_is}
-use Rattle.rules.proofs.Keeping.{Running, running_stands}
+use Rattle.rules.proofs.Keeping.{Running, not_both, running_stands}
 use Rattle.rules.proofs.Standing.{Facts, facts}
 use Rattle.state.specs.Fit.{Eventful}
 use Rattle.state.specs.Machine.{move_to, moved_of, end_at, work_of, with_work, opened_of, closed_of}
@@ -54,27 +54,21 @@ module _ (s : State) (to : ℕ) (S : Settles s to) where
   by_end : to ≤ end_at s
   by_end = rw S.next (rw (next_same I S.stop) at (next_is (tasks_at s) S.stop P S.ahead).by_end)
 
-  pub settle_fit : to ≢ end_at s → Eventful (at_time to (work_of s))
-  settle_fit ne =
+  pub settle_fit : eqb to (end_at s) ≡ false → Eventful (at_time to (work_of s))
+  settle_fit f =
       let later = P.going.later in
-      let before : next_of (work_of s) S.stop < end_at s = let h = by_end in let e = S.next in not_equal (next_of (work_of s) S.stop) (end_at s) (omega arith) (λ q. ne (e ∙ q)) in
+      let lt : to < end_at s = lt_of_le-ne by_end (λ q. not_both ⊥ (sym f ∙ eq-eqb to (end_at s) q)) in
+      let before : next_of (work_of s) S.stop < end_at s = let e = S.next in omega arith in
       rw S.next (events_ready I (running_stands (tasks_at s) P) F.scale_pos (omega arith) (omega arith) (end_fits s S.whole S.on).0 S.stop S.ahead before)
-    where
-      not_equal : (a b : ℕ) → a ≤ b → a ≢ b → a < b
-      not_equal a b h n = go (native.Mathlib.Decide.dec_lt a b)
-        where
-          go : Dec (a < b) → a < b
-          go (yes q) = q
-          go (no q) = absurd (n (omega arith))
 
 -- at the end the plane closes; else the events happen
-pub moved_end : (s : State) (to : ℕ) → to ≡ end_at s → closed_of s to ≡ (move_to s to).state
+pub moved_end : (s : State) (to : ℕ) → eqb to (end_at s) ≡ true → closed_of s to ≡ (move_to s to).state
 unfolding move_to
-moved_end s to e = sym (ap (λ b. if b then closed_of s to else with_work s (events_of (at_time to (work_of s)))) (eq-eqb to (end_at s) e))
+moved_end s to e = sym (ap (λ b. if b then closed_of s to else with_work s (events_of (at_time to (work_of s)))) e)
 
-pub moved_on : (s : State) (to : ℕ) → to ≢ end_at s → with_work s (events_of (at_time to (work_of s))) ≡ (move_to s to).state
+pub moved_on : (s : State) (to : ℕ) → eqb to (end_at s) ≡ false → with_work s (events_of (at_time to (work_of s))) ≡ (move_to s to).state
 unfolding move_to
-moved_on s to e = sym (ap (λ b. if b then closed_of s to else with_work s (events_of (at_time to (work_of s)))) (ne_eqb to (end_at s) e))
+moved_on s to e = sym (ap (λ b. if b then closed_of s to else with_work s (events_of (at_time to (work_of s)))) e)
 
 -- A STEP
 -- the stop fits 64 bits

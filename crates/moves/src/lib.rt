@@ -1,273 +1,114 @@
-// A step and an arrival in place. Each is lent the columns that it touches; its promise is an equation on states, whatever the others are.
+// A step and an arrival on a state in lent places. Each promise is an equation on states.
 #![tactic(auto)]
 
-ghost use Rattle.std.specs.Prelude.{◌≡◌, true, ◌*◌, ◌<◌, ◌≤◌, length};
-ghost use Rattle.rules.specs.Reasons.{Comes};
-ghost use Rattle.state.specs.Machine.{work_of, opened_of, move_to, moved_of, arrived_of};
-ghost use Rattle.state.specs.Work.{next_of};
-ghost use Rattle.state.specs.View.{view};
-ghost use Rattle.moves.specs.Whole.{Whole, Settles, Writes};
-ghost use Rattle.moves.specs.Lent.{in_step, by_step, in_plane, by_plane, in_arrival, by_arrival};
+ghost use Rattle.std.specs.Prelude.{◌≡◌, Bool, true, List, ℕ, ◌*◌, ◌<◌, ◌≤◌, length};
 ghost use Rattle.rules.specs.Bounds.{clock};
+ghost use Rattle.rules.specs.Reasons.{Comes};
+ghost use Rattle.state.specs.Lent.{state_with, SamePlaces};
+ghost use Rattle.state.specs.Machine.{work_of, opened_of, move_to, moved_of, arrived_of};
+ghost use Rattle.state.specs.View.{view};
+ghost use Rattle.state.specs.Work.{next_of};
+ghost use Rattle.moves.specs.Whole.{Whole, Settles, Writes};
 
 use ground::{Amount, Instant};
-use plane::{Lengths, Plane};
-
-// The numbers of a table: how many rows, how many processors, the scale.
-#[derive(Clone, Copy)]
-pub struct Terms {
-    pub count: usize,
-    pub m: usize,
-    pub scale: u64,
-}
-
-// Where a state stands: the present, is a plane open, its end in ticks, how many run and wait.
-#[derive(Clone, Copy)]
-pub struct Moment {
-    pub now: Instant,
-    pub going: bool,
-    pub end_tick: u64,
-    pub lengths: Lengths,
-}
+use plane::Plane;
+use state::InPlace;
 
 // A plane is open afterwards: the one that was, or a new one.
-fn open_in(
-    terms: Terms,
-    moment: Moment,
-    period: &[u32; 128],
-    deadline: &[u32; 128],
-    share: &[u64; 128],
-    order: &[u16; 128],
-    awake: &[bool; 128],
-    last: &[u64; 128],
-    rk: &mut [u64; 128],
-    rt: &mut [u16; 128],
-    wk: &mut [u64; 128],
-    wt: &mut [u16; 128],
-    slots: &mut [u16; 16],
-) -> Moment
-    requires whole { in_step Whole terms moment
-        period.now deadline.now share.now order.now awake.now last.now rk.old rt.old wk.old wt.old slots.old }
-    ensures is { by_step (λ s k. k ≡ opened_of s) terms moment result
-        period.now deadline.now share.now order.now last.now
-        awake.now rk.old rt.old wk.old wt.old slots.old
-        awake.now rk.new rt.new wk.new wt.new slots.new }
+fn open_in(s: &mut InPlace, last: &[u64; 128])
+    requires whole { (exec : List ℕ) × (arrived : List Bool) × Whole (state_with s.old exec arrived last.now) }
+    ensures same { SamePlaces s.old s.new }
+    ensures is { (exec : List ℕ) (arrived : List Bool) → state_with s.new exec arrived last.now ≡ opened_of (state_with s.old exec arrived last.now) }
 {
-    if moment.going {
-        return moment;
+    if s.going {
+        return;
     }
-    let present = moment.now;
-    let tick = present.0 / terms.scale;
-    let end_tick = plane::plane_end(period, deadline, awake, last, terms.count, tick);
-    let close = Instant(end_tick * terms.scale);
+    let table = s.table;
+    let tick = s.now.0 / table.scale;
+    let end = plane::plane_end(table.rows, s.awake, last, tick);
     let plane = Plane {
-        m: terms.m,
-        now: present,
-        close: close,
+        m: table.m,
+        now: s.now,
+        close: Instant(end * table.scale),
     };
-    let len = end_tick - tick;
-    let lengths = plane::open_plane(
-        plane,
-        rk,
-        rt,
-        wk,
-        wt,
-        slots,
-        awake,
-        share,
-        order,
-        terms.count,
-        len,
-    );
-    Moment {
-        now: present,
-        going: true,
-        end_tick: end_tick,
-        lengths: lengths,
-    }
+    plane::open_plane(plane, &mut s.crew, s.awake, table, end - tick);
+    s.going = true;
+    s.end = end;
 }
 
 // At the next instant of an open plane: the plane closes, or its events happen.
-fn settle_in(
-    terms: Terms,
-    moment: Moment,
-    to: Instant,
-    period: &[u32; 128],
-    deadline: &[u32; 128],
-    awake: &mut [bool; 128],
-    last: &[u64; 128],
-    rk: &mut [u64; 128],
-    rt: &mut [u16; 128],
-    wk: &mut [u64; 128],
-    wt: &mut [u16; 128],
-    slots: &mut [u16; 16],
-) -> Moment
-    requires next { in_plane (λ s. Settles s to.0) terms moment
-        period.now deadline.now awake.old last.now rk.old rt.old wk.old wt.old slots.old }
-    ensures is { by_plane (λ s k. k ≡ (move_to s to.0).state) terms moment result
-        period.now deadline.now last.now
-        awake.old rk.old rt.old wk.old wt.old slots.old
-        awake.new rk.new rt.new wk.new wt.new slots.new }
+fn settle_in(s: &mut InPlace, last: &[u64; 128], to: Instant)
+    requires next { (exec : List ℕ) × (arrived : List Bool) × Settles (state_with s.old exec arrived last.now) to.0 }
+    ensures same { SamePlaces s.old s.new }
+    ensures is { (exec : List ℕ) (arrived : List Bool) → state_with s.new exec arrived last.now ≡ (move_to (state_with s.old exec arrived last.now) to.0).state }
 {
-    let close = Instant(moment.end_tick * terms.scale);
-    if to.0 == close.0 {
-        plane::sleep_all(period, deadline, awake, last, terms.count, moment.end_tick);
-        plane::clear_slots(slots);
-        let none = Lengths {
-            running: 0,
-            waiting: 0,
-        };
-        return Moment {
-            now: to,
-            going: false,
-            end_tick: moment.end_tick,
-            lengths: none,
-        };
+    let close = Instant(s.end * s.table.scale);
+    s.now = to;
+    if to == close {
+        plane::sleep_all(s.table.rows, s.awake, last, s.end);
+        plane::clear_slots(s.crew.slots);
+        s.crew.running.len = 0;
+        s.crew.waiting.len = 0;
+        s.going = false;
+        return;
     }
     let plane = Plane {
-        m: terms.m,
+        m: s.table.m,
         now: to,
-        close: close,
+        close,
     };
-    let lengths = plane::events(plane, moment.lengths, rk, rt, wk, wt, slots);
-    Moment {
-        now: to,
-        going: moment.going,
-        end_tick: moment.end_tick,
-        lengths: lengths,
-    }
+    plane::events(plane, &mut s.crew);
 }
 
 // In an open plane: on to the next event or the stop, with a record of it.
-fn move_in(
-    terms: Terms,
-    moment: Moment,
-    stop: Instant,
-    period: &[u32; 128],
-    deadline: &[u32; 128],
-    awake: &mut [bool; 128],
-    last: &[u64; 128],
-    rk: &mut [u64; 128],
-    rt: &mut [u16; 128],
-    wk: &mut [u64; 128],
-    wt: &mut [u16; 128],
-    slots: &mut [u16; 16],
-    room: &mut [u8],
-) -> Moment
-    requires ready { (48 ≤ length room.old) × in_plane (λ s. Whole s × (s.going ≡ true) × (s.now.0 < stop.0)) terms moment
-        period.now deadline.now awake.old last.now rk.old rt.old wk.old wt.old slots.old }
-    ensures is { by_plane (λ s k. Writes (move_to s (next_of (work_of s) stop.0)) k room.old room.new) terms moment result
-        period.now deadline.now last.now
-        awake.old rk.old rt.old wk.old wt.old slots.old
-        awake.new rk.new rt.new wk.new wt.new slots.new }
+fn move_in(s: &mut InPlace, last: &[u64; 128], stop: Instant, room: &mut [u8])
+    requires ready { (48 ≤ length room.old) × ((exec : List ℕ) × (arrived : List Bool)
+        × Whole (state_with s.old exec arrived last.now) × (s.old.going ≡ true) × (s.old.now.0 < stop.0)) }
+    ensures same { SamePlaces s.old s.new }
+    ensures is { (exec : List ℕ) (arrived : List Bool) → let k = state_with s.old exec arrived last.now in
+        Writes (move_to k (next_of (work_of k) stop.0)) (state_with s.new exec arrived last.now) room.old room.new }
 {
-    let present = moment.now;
-    let close = Instant(moment.end_tick * terms.scale);
-    let to = plane::next_instant(close, moment.lengths, rk, wk, stop);
-    record::write(room, present, to, slots);
-    settle_in(
-        terms, moment, to, period, deadline, awake, last, rk, rt, wk, wt, slots,
-    )
+    let close = Instant(s.end * s.table.scale);
+    let to = plane::next_instant(close, &s.crew, stop);
+    let slots = &mut *s.crew.slots;
+    record::write(room, s.now, to, slots);
+    settle_in(s, last, to);
 }
 
 // A step: a plane opens where none is, then on to the next event or the horizon, with a record of it.
-pub fn step_in(
-    terms: Terms,
-    moment: Moment,
-    horizon: u64,
-    period: &[u32; 128],
-    deadline: &[u32; 128],
-    share: &[u64; 128],
-    order: &[u16; 128],
-    awake: &mut [bool; 128],
-    last: &[u64; 128],
-    rk: &mut [u64; 128],
-    rt: &mut [u16; 128],
-    wk: &mut [u64; 128],
-    wt: &mut [u16; 128],
-    slots: &mut [u16; 16],
-    room: &mut [u8],
-) -> Moment
-    requires ready { (48 ≤ length room.old) × (horizon ≤ clock)
-        × in_step (λ s. Whole s × (s.now.0 < horizon * s.table.scale)) terms moment
-        period.now deadline.now share.now order.now awake.old last.now rk.old rt.old wk.old wt.old slots.old }
-    ensures is { by_step (λ s k. Writes (moved_of s horizon) k room.old room.new) terms moment result
-        period.now deadline.now share.now order.now last.now
-        awake.old rk.old rt.old wk.old wt.old slots.old
-        awake.new rk.new rt.new wk.new wt.new slots.new }
+pub fn step_in(s: &mut InPlace, last: &[u64; 128], horizon: u64, room: &mut [u8])
+    requires ready { (48 ≤ length room.old) × (horizon ≤ clock) × ((exec : List ℕ) × (arrived : List Bool)
+        × Whole (state_with s.old exec arrived last.now) × (s.old.now.0 < horizon * s.old.table.scale)) }
+    ensures same { SamePlaces s.old s.new }
+    ensures is { (exec : List ℕ) (arrived : List Bool) →
+        Writes (moved_of (state_with s.old exec arrived last.now) horizon) (state_with s.new exec arrived last.now) room.old room.new }
 {
-    let stop = Instant(horizon * terms.scale);
-    let opened = open_in(
-        terms, moment, period, deadline, share, order, awake, last, rk, rt, wk, wt, slots,
-    );
-    move_in(
-        terms, opened, stop, period, deadline, awake, last, rk, rt, wk, wt, slots, room,
-    )
+    let stop = Instant(horizon * s.table.scale);
+    open_in(s, last);
+    move_in(s, last, stop, room);
 }
 
 // An arrival of the task in row i: it is awake from this tick on, and joins the plane if one is open.
-pub fn arrive_in(
-    terms: Terms,
-    moment: Moment,
-    i: usize,
-    share: &[u64; 128],
-    awake: &mut [bool; 128],
-    arrived: &mut [bool; 128],
-    last: &mut [u64; 128],
-    rk: &mut [u64; 128],
-    rt: &mut [u16; 128],
-    wk: &mut [u64; 128],
-    wt: &mut [u16; 128],
-    slots: &mut [u16; 16],
-) -> Moment
-    requires ready { in_arrival (λ s. Whole s × Comes (view s) i) terms moment
-        share.now awake.old arrived.old last.old rk.old rt.old wk.old wt.old slots.old }
-    ensures is { by_arrival (λ s k. k ≡ arrived_of s i) terms moment result
-        share.now
-        awake.old arrived.old last.old rk.old rt.old wk.old wt.old slots.old
-        awake.new arrived.new last.new rk.new rt.new wk.new wt.new slots.new }
+pub fn arrive_in(s: &mut InPlace, arrived: &mut [bool; 128], last: &mut [u64; 128], i: usize)
+    requires ready { (exec : List ℕ) × let k = state_with s.old exec arrived.old last.old in Whole k × Comes (view k) i }
+    ensures same { SamePlaces s.old s.new }
+    ensures is { (exec : List ℕ) → state_with s.new exec arrived.new last.new ≡ arrived_of (state_with s.old exec arrived.old last.old) i }
 {
-    let present = moment.now;
-    let tick = present.0 / terms.scale;
-    let part = share[i];
-    let task = (i + 1) as u16;
-    awake[i] = true;
+    let table = s.table;
+    let tick = s.now.0 / table.scale;
+    let part = table.share[i];
+    s.awake[i] = true;
     arrived[i] = true;
     last[i] = tick;
-    // field by field: handed on whole, the moment would be copied with its padding
-    if !moment.going {
-        let lengths = moment.lengths;
-        return Moment {
-            now: present,
-            going: moment.going,
-            end_tick: moment.end_tick,
-            lengths: lengths,
-        };
+    if !s.going {
+        return;
     }
-    let close = Instant(moment.end_tick * terms.scale);
     let plane = Plane {
-        m: terms.m,
-        now: present,
-        close: close,
+        m: table.m,
+        now: s.now,
+        close: Instant(s.end * table.scale),
     };
-    let amount = Amount(part * (moment.end_tick - tick));
-    let below = part < terms.scale;
-    let lengths = plane::join(
-        plane,
-        moment.lengths,
-        rk,
-        rt,
-        wk,
-        wt,
-        slots,
-        task,
-        amount,
-        below,
-    );
-    Moment {
-        now: present,
-        going: moment.going,
-        end_tick: moment.end_tick,
-        lengths: lengths,
-    }
+    let task = (i + 1) as u16;
+    let amount = Amount(part * (s.end - tick));
+    plane::join(plane, &mut s.crew, task, amount, part < table.scale);
 }

@@ -1,5 +1,5 @@
 -- What a buffer's end cuts off changes nothing: rows past the 129th, bytes past the 65,537th
-use Rattle.std.specs.Prelude.{if◌then◌else◌}
+use Rattle.std.specs.Prelude.{if◌then◌else◌, Err}
 use mathlib.Core.Path.{◌≡◌, refl, sym, ◌∙◌, ap}
 use mathlib.Core.Bool.{Bool, true, false, ◌&&◌}
 use mathlib.Core.List.{List}
@@ -10,17 +10,15 @@ use lib.ListN.{length, take}
 use lib.Seq.{take_all, length-take-le}
 use Rattle.ground.specs.Tests.{Says}
 use Rattle.ground.proofs.Tests.{leb_says, ltb_says, is_true, is_false}
-use Rattle.rules.specs.declared.Answer.{Answer}
-use Rattle.rules.specs.declared.Answer.TheVariants.{TableLength, Processors}
-use Rattle.rules.specs.Answers.{is_done}
+use Rattle.rules.specs.Answers.{Answer, TableLength, Processors, is_done}
 use Rattle.rules.specs.Table.{Row, rows_of, table_bytes}
 use Rattle.rules.specs.State.{blank, admitted}
 use Rattle.rules.specs.Admission.{plain, Admitted, processors_ok, rows_verdict, admit_verdict, admit}
 use Rattle.rules.proofs.Reading.{length_table}
-use Rattle.text.specs.declared.Checked.{Checked}
-use Rattle.text.specs.declared.Checked.TheVariants.{Broken}
+use Rattle.text.specs.declared.Flaw.TheVariants.{TooLong}
+use Rattle.text.specs.declared.Stage.TheVariants.{Start}
 use Rattle.text.specs.Parts.{split_by, newline}
-use Rattle.text.specs.Form.{form_from, form_of}
+use Rattle.text.specs.Form.{Checked, form_from, form_of}
 use Rattle.text.specs.Meaning.{items_of, rows_in, table_of}
 use Rattle.output.specs.Course.{course_by, course_of}
 use Rattle.output.specs.Output.{printed, output_of}
@@ -63,11 +61,11 @@ rows_cut text m =
     long_admit (table_bytes (take 129 rows)) m a ∙ sym (long_admit (table_bytes rows) m b))
 
 -- a text that is too long breaks the form, whatever its lines
-pub long_form : (text : List ℕ) → 65536 < length text → form_of text ≡ Broken 0
+pub long_form : (text : List ℕ) → 65536 < length text → form_of text ≡ Err TooLong
 unfolding form_of
-long_form text h = ap (λ b. if b then Broken 0 else form_from 0 1 (split_by newline text)) (is_true (ltb 65536 (length text)) (ltb_says 65536 (length text)) h)
+long_form text h = ap (λ b. if b then Err TooLong else form_from Start 1 (split_by newline text)) (is_true (ltb 65536 (length text)) (ltb_says 65536 (length text)) h)
 
-long_output : (text : List ℕ) → 65536 < length text → output_of text ≡ printed (course_by text (Broken 0))
+long_output : (text : List ℕ) → 65536 < length text → output_of text ≡ printed (course_by text (Err TooLong))
 unfolding output_of course_of
 long_output text h = ap (λ (f : Checked). printed (course_by text f)) (long_form text h)
 

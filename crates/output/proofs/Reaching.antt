@@ -5,8 +5,7 @@ use mathlib.Core.List.{List, [], ◌∷◌, ◌++◌, append_assoc, append-nil}
 use Prim.Native.Nat.{ℕ, zero, suc, ◌+◌, ◌*◌, ◌≤◌, ◌<◌}
 use native.Mathlib.Omega.{arith}
 use lib.ListN.{length, replicate, length-replicate}
-use Rattle.rules.specs.declared.Answer.TheVariants.{Done}
-use Rattle.rules.specs.Answers.{is_done}
+use Rattle.rules.specs.Answers.{Done, is_done}
 use Rattle.rules.specs.State.{State}
 use Rattle.rules.specs.Record.{Record, read_record}
 use Rattle.rules.proofs.Holding.{together_is}

@@ -1,5 +1,5 @@
 -- What document 01 says of every output
-use Rattle.std.specs.Prelude.{if◌then◌else◌}
+use Rattle.std.specs.Prelude.{if◌then◌else◌, Option, Some, None, Ok, Err}
 use mathlib.Core.Path.{◌≡◌, refl, sym, ◌∙◌, ap, subst}
 use mathlib.Core.Bool.{Bool, true, false}
 use mathlib.Core.List.{List, [], ◌∷◌, ◌++◌, map}
@@ -8,9 +8,7 @@ use native.Mathlib.Omega.{arith}
 use lib.ListN.{length, get_or}
 use Rattle.ground.specs.Tests.{Says}
 use Rattle.ground.proofs.Tests.{eqb_says}
-use Rattle.rules.specs.declared.Answer.{Answer}
-use Rattle.rules.specs.declared.Answer.TheVariants.{Done, Processors, TableLength, RowRange, RowExecution, Scale, Shares, TaskNumber, BetweenTicks, TooSoon, HorizonPastClock, HorizonNotLater, RoomTooShort, NotTogether, TextForm}
-use Rattle.rules.specs.Answers.{is_done}
+use Rattle.rules.specs.Answers.{Answer, is_done, Done, Processors, TableLength, RowRange, RowExecution, Scale, Shares, TaskNumber, BetweenTicks, TooSoon, HorizonPastClock, HorizonNotLater, RoomTooShort, NotTogether, TextForm}
 use Rattle.rules.specs.Bounds.{clock}
 use Rattle.rules.specs.Table.{Row, rows_of, table_bytes}
 use Rattle.rules.specs.Admission.{Admitted, admit_verdict, admit}
@@ -32,9 +30,7 @@ use Rattle.rules.proofs.Refusing.{admit_answers, arrive_answers, step_answers}
 use Rattle.rules.proofs.Together.{Together}
 use Rattle.text.specs.declared.Item.{Item}
 use Rattle.text.specs.declared.Item.TheVariants as Items
-use Rattle.text.specs.declared.Checked.{Checked}
-use Rattle.text.specs.declared.Checked.TheVariants.{Good, Broken}
-use Rattle.text.specs.Form.{form_of}
+use Rattle.text.specs.Form.{Checked, flaw_line, form_of}
 use Rattle.text.specs.Meaning.{items_of, processors_in, rows_in, row_lines_in, row_line_of, turns_in}
 use Rattle.text.proofs.Tables.{text_rows_fit}
 use Rattle.output.specs.Course as Course
@@ -167,36 +163,36 @@ arriving_closes s tick task line follows H at l f = go (is_done (arrive_answer s
     go true e = f (arrive s task).state (taken_together s task H e)
     go false e = refusal_closes (arrive_answer s task) line (arrival_printable s tick task line H at l e)
 
-turns_close : (s : State) (n : ℕ) (items : List Item) → Together s → 1 ≤ n → Closes (turns_course s (turns_in n items))
+turns_close : (s : State) (n : ℕ) (items : List (Option Item)) → Together s → 1 ≤ n → Closes (turns_course s (turns_in n items))
 unfolding turns_course turns_in Closes
 turns_close s n [] H l = tt
-turns_close s n (Items.Arrive tick task ∷ items) H l =
+turns_close s n (Some (Items.Arrive tick task) ∷ items) H l =
     reaching_closes s tick n (λ (there : State). Course.arriving (arrive there task) n (λ (after : State). turns_course after (turns_in (n + 1) items))) H l
     (λ k K at. arriving_closes k tick task n (λ (after : State). turns_course after (turns_in (n + 1) items)) K at l (λ j J. turns_close j (n + 1) items J (omega (arith, l))))
-turns_close s n (Items.Until tick ∷ items) H l = reaching_closes s tick n (λ (there : State). []) H l (λ k K at. tt)
-turns_close s n (Items.Processors m ∷ items) H l = turns_close s (n + 1) items H (omega (arith, l))
-turns_close s n (Items.Task p e d ∷ items) H l = turns_close s (n + 1) items H (omega (arith, l))
-turns_close s n (Items.Other ∷ items) H l = turns_close s (n + 1) items H (omega (arith, l))
+turns_close s n (Some (Items.Until tick) ∷ items) H l = reaching_closes s tick n (λ (there : State). []) H l (λ k K at. tt)
+turns_close s n (Some (Items.Processors m) ∷ items) H l = turns_close s (n + 1) items H (omega (arith, l))
+turns_close s n (Some (Items.Task p e d) ∷ items) H l = turns_close s (n + 1) items H (omega (arith, l))
+turns_close s n (None ∷ items) H l = turns_close s (n + 1) items H (omega (arith, l))
 
 -- THE LINES OF ROWS: one for each row, none below the first
-one_each : (n : ℕ) (items : List Item) → length (row_lines_in n items) ≡ length (rows_in items)
+one_each : (n : ℕ) (items : List (Option Item)) → length (row_lines_in n items) ≡ length (rows_in items)
 unfolding row_lines_in rows_in
 one_each n [] = refl
-one_each n (Items.Task p e d ∷ items) = ap suc (one_each (n + 1) items)
-one_each n (Items.Processors m ∷ items) = one_each (n + 1) items
-one_each n (Items.Arrive tick task ∷ items) = one_each (n + 1) items
-one_each n (Items.Until tick ∷ items) = one_each (n + 1) items
-one_each n (Items.Other ∷ items) = one_each (n + 1) items
+one_each n (Some (Items.Task p e d) ∷ items) = ap suc (one_each (n + 1) items)
+one_each n (Some (Items.Processors m) ∷ items) = one_each (n + 1) items
+one_each n (Some (Items.Arrive tick task) ∷ items) = one_each (n + 1) items
+one_each n (Some (Items.Until tick) ∷ items) = one_each (n + 1) items
+one_each n (None ∷ items) = one_each (n + 1) items
 
-no_less : (n : ℕ) (items : List Item) (i : ℕ) → i < length (row_lines_in n items) → n ≤ get_or (row_lines_in n items) i 0
+no_less : (n : ℕ) (items : List (Option Item)) (i : ℕ) → i < length (row_lines_in n items) → n ≤ get_or (row_lines_in n items) i 0
 unfolding row_lines_in
 no_less n [] i h = absurd (omega (arith, h))
-no_less n (Items.Task p e d ∷ items) zero h = omega arith
-no_less n (Items.Task p e d ∷ items) (suc i) h = let z = no_less (n + 1) items i (omega (arith, h)) in omega (arith, z)
-no_less n (Items.Processors m ∷ items) i h = let z = no_less (n + 1) items i h in omega (arith, z)
-no_less n (Items.Arrive tick task ∷ items) i h = let z = no_less (n + 1) items i h in omega (arith, z)
-no_less n (Items.Until tick ∷ items) i h = let z = no_less (n + 1) items i h in omega (arith, z)
-no_less n (Items.Other ∷ items) i h = let z = no_less (n + 1) items i h in omega (arith, z)
+no_less n (Some (Items.Task p e d) ∷ items) zero h = omega arith
+no_less n (Some (Items.Task p e d) ∷ items) (suc i) h = let z = no_less (n + 1) items i (omega (arith, h)) in omega (arith, z)
+no_less n (Some (Items.Processors m) ∷ items) i h = let z = no_less (n + 1) items i h in omega (arith, z)
+no_less n (Some (Items.Arrive tick task) ∷ items) i h = let z = no_less (n + 1) items i h in omega (arith, z)
+no_less n (Some (Items.Until tick) ∷ items) i h = let z = no_less (n + 1) items i h in omega (arith, z)
+no_less n (None ∷ items) i h = let z = no_less (n + 1) items i h in omega (arith, z)
 
 -- the table of a text
 abbrev whole_table : List ℕ → List ℕ
@@ -257,8 +253,8 @@ unfolding course_of
 course_closes text = go (form_of text)
   where
     go : (c : Checked) → Closes (course_by text c)
-    go Good = admission_closes text (processors_in (items_of text))
-    go (Broken line) = refusal_closes TextForm line tt
+    go (Ok u) = admission_closes text (processors_in (items_of text))
+    go (Err flaw) = refusal_closes TextForm (flaw_line flaw) tt
 
 too_long : (text : List ℕ) → 65536 < length text → course_of text ≡ refusal TextForm 0
 unfolding course_of

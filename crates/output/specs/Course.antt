@@ -1,8 +1,6 @@
 -- WHAT COMES OF A TEXT: document 01, "The program", from the rules' calls. What each entry looks like is said elsewhere
-use Rattle.std.specs.Prelude.{Bool, true, false, List, [], ◌∷◌, ◌++◌, map, ℕ, ◌*◌, eqb}
-use Rattle.rules.specs.declared.Answer.{Answer}
-use Rattle.rules.specs.declared.Answer.TheVariants.{HorizonNotLater, TextForm}
-use Rattle.rules.specs.Answers.{is_done}
+use Rattle.std.specs.Prelude.{Bool, true, false, List, [], ◌∷◌, ◌++◌, map, ℕ, ◌*◌, eqb, Ok, Err}
+use Rattle.rules.specs.Answers.{Answer, HorizonNotLater, TextForm, is_done}
 use Rattle.rules.specs.Table.{table_bytes}
 use Rattle.rules.specs.Admission.{Admitted, admit}
 use Rattle.rules.specs.State.{State}
@@ -10,10 +8,8 @@ use Rattle.rules.specs.Record.{Record}
 use Rattle.rules.specs.Calls.{Arrived, arrive}
 use Rattle.rules.specs.Run.{Run, starting}
 use Rattle.rules.specs.Listings.{reach}
-use Rattle.text.specs.declared.Item.TheVariants.{Processors, Task, Arrive, Until, Other}
-use Rattle.text.specs.declared.Checked.{Checked}
-use Rattle.text.specs.declared.Checked.TheVariants.{Good, Broken}
-use Rattle.text.specs.Form.{form_of}
+use Rattle.text.specs.declared.Item.TheVariants.{Processors, Task, Arrive, Until}
+use Rattle.text.specs.Form.{Checked, flaw_line, form_of}
 use Rattle.text.specs.Meaning.{items_of, processors_in, rows_in, row_line_of, Turn, turns_in}
 
 -- the scale of the admitted table; a record of m processors; a refusal, with the text line that it names or 0
@@ -51,7 +47,6 @@ turns_course s (t ∷ ts) =
       | Until tick ↦ reaching s tick t.line (λ (there : State). [])
       | Processors m ↦ turns_course s ts
       | Task p e d ↦ turns_course s ts
-      | Other ↦ turns_course s ts
     ]
 
 -- "Once the table is admitted it prints "scale L""; a refusal has the text line of its row, "0 for 1, 2, 5, 6"
@@ -64,8 +59,8 @@ admission_course text a =
 
 -- "The form of the whole text is checked first"
 abbrev pub course_by : List ℕ → Checked → List Entry
-course_by text Good = admission_course text (admit (table_bytes (rows_in (items_of text))) (processors_in (items_of text)))
-course_by text (Broken line) = refusal TextForm line
+course_by text (Ok u) = admission_course text (admit (table_bytes (rows_in (items_of text))) (processors_in (items_of text)))
+course_by text (Err flaw) = refusal TextForm (flaw_line flaw)
 
 unfoldable pub course_of : List ℕ → List Entry
 course_of text = course_by text (form_of text)

@@ -1,4 +1,5 @@
 pub mod Works
+pub mod Crews
 pub mod Seeking
 pub mod Turns
 pub mod Entering

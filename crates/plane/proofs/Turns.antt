@@ -1,7 +1,7 @@
 -- The loops of the B events and of the C events: what is left to do is all there was to do
 use mathlib.Core.Path.{◌≡◌, refl, sym, ◌∙◌, ap, subst}
 use mathlib.Core.Bool.{Bool, true, false}
-use Prim.Native.Nat.{ℕ, zero, suc, ◌-◌, ◌≤◌, ◌<◌}
+use Prim.Native.Nat.{ℕ, zero, suc, ◌≤◌, ◌<◌}
 use native.Mathlib.Omega.{arith}
 use Rattle.state.specs.Fit.{Fit, Yields, Yielding, Eventful}
 use Rattle.state.specs.Work.{Work, top_place, rest_top, unqueue, b_one, c_one, b_due, c_due, size, b_turns, b_all, c_turns, c_all}
@@ -78,21 +78,20 @@ pub record Seizing (w₀ w : Work) (n : ℕ) : Type 0 where
   pub yields : Yielding n w
   pub left : c_turns n w ≡ c_all w₀
 
-pub seizing_from : {w : Work} → Critical w → Seizing w w w.waiting.len
+pub seizing_from : {w : Work} {n : ℕ} → Critical w → n ≡ w.waiting.len → Seizing w w n
 unfolding c_all
-seizing_from k = record { fit = k.fit; yields = k.yields; left = refl }
+seizing_from {w} k e = rw e (record { fit = k.fit; yields = k.yields; left = refl })
 
 module _ {w₀ w : Work} where
   pub seizing_yields : (n : ℕ) → 0 < n → Seizing w₀ w n → c_due w ≡ true → Yields w
   seizing_yields zero h t e = absurd (omega arith)
   seizing_yields (suc n) h t e = (t.yields e).0
 
-  pub seizing_on : (n : ℕ) → 0 < n → Seizing w₀ w n → c_due w ≡ true → {v : Work} → v ≡ c_one w → Seizing w₀ v (n - 1)
-  seizing_on zero h t e v = absurd (omega arith)
-  seizing_on (suc n) h t e v =
-      let z : suc n - 1 ≡ n = omega arith in
-      subst (λ (x : Work). Seizing w₀ x (suc n - 1)) (sym v)
-      (rw z (record { fit = fits_c t.fit (c_some w e) (t.yields e).0; yields = (t.yields e).1; left = sym (c_goes n w e) ∙ t.left }))
+  on : (n : ℕ) → Seizing w₀ w (suc n) → c_due w ≡ true → Seizing w₀ (c_one w) n
+  on n t e = record { fit = fits_c t.fit (c_some w e) (t.yields e).0; yields = (t.yields e).1; left = sym (c_goes n w e) ∙ t.left }
+
+  pub seizing_on : {n k : ℕ} → n ≡ suc k → Seizing w₀ w n → c_due w ≡ true → {v : Work} → v ≡ c_one w → Seizing w₀ v k
+  seizing_on {n} {k} z t e v = subst (λ (x : Work). Seizing w₀ x k) (sym v) (on k (subst (λ (x : ℕ). Seizing w₀ w x) z t) e)
 
   pub seizing_stays : (n : ℕ) → Seizing w₀ w n → c_due w ≡ false → w ≡ c_all w₀
   seizing_stays n t e = sym (c_stays n w e) ∙ t.left

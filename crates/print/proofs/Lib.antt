@@ -2,3 +2,4 @@ pub mod Decimals
 pub mod Records
 pub mod Readback
 pub mod Lines
+pub mod Pens

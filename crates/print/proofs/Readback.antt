@@ -1,5 +1,5 @@
 -- What is written reads back
-use Rattle.std.specs.Prelude.{if◌then◌else◌}
+use Rattle.std.specs.Prelude.{if◌then◌else◌, Some}
 use Prim.Native.Nat.{ℕ, zero, suc, ◌+◌, ◌-◌, ◌*◌, ◌/◌, ◌%◌, ◌≤◌, ◌<◌}
 use mathlib.Core.Path.{◌≡◌, refl, ap, ◌∙◌}
 use mathlib.Core.Bool.{Bool, true, false, ◌&&◌}
@@ -10,7 +10,6 @@ use borrow.Author.Tests.{le-leb, ne_eqb}
 use lib.Dec.{ltb}
 use Rattle.ground.specs.Tests.{every, Says}
 use Rattle.ground.proofs.Tests.{ltb_says}
-use Rattle.text.specs.declared.Numeral.TheVariants.{Value}
 use Rattle.text.specs.Numbers.{most_number, is_digit, plain, spelled_after, spelled, numeral_of}
 use Rattle.print.specs.Decimals.{digits, decimal_of}
 use Rattle.text.proofs.Numerals.{a_number}
@@ -96,6 +95,6 @@ decimal_spells x h = spelled_digits 20 x (enough x h)
 pub decimal_plain : (x : ℕ) → x < 18446744073709551616 → plain (decimal_of x) ≡ true
 decimal_plain x h = plain_digits 20 x (enough x h)
 
-pub decimal_reads : (x : ℕ) → x ≤ most_number → numeral_of (decimal_of x) ≡ Value x
+pub decimal_reads : (x : ℕ) → x ≤ most_number → numeral_of (decimal_of x) ≡ Some x
 decimal_reads x h =
     let k : x < 18446744073709551616 = omega arith in a_number (decimal_of x) x (decimal_plain x k) (every_digits 20 x) (decimal_spells x k) h

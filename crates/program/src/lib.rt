@@ -14,16 +14,12 @@ fn write_listing<W: Write>(text: &[u8], to: &mut W) -> io::Result<()>
 {
     let mut out = [0u8; 65536];
     let mut c = course::first();
-    loop {
-        let stage = c.stage;
-        if course::is_ended(stage) {
-            return Ok(());
-        }
-        let r = listing::next(text, c, &mut out);
-        let len = r.len;
-        to.write_all(&out[..len])?;
-        c = r.cursor;
+    while !course::is_ended(c.stage) {
+        let written = listing::next(text, c, &mut out);
+        to.write_all(&out[..written.len])?;
+        c = written.cursor;
     }
+    Ok(())
 }
 
 // Reads a text and writes its listing. A text of more than 65,537 bytes need not be read to its end.

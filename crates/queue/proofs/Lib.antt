@@ -4,6 +4,7 @@ pub mod HeapLaws
 pub mod Order
 pub mod Entries
 pub mod Loops
+pub mod Lent
 pub mod Standing
 pub mod Finding
 pub mod Keys

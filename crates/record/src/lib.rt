@@ -21,10 +21,8 @@ fn put_slots(room: &mut [u8], slots: [u16; 16])
     requires fits { 48 ≤ length room.old }
     ensures is { room.new ≡ take 16 room.old ++ slot_bytes slots ++ drop 48 room.old }
 {
-    let mut k: usize = 0;
-    while k < 16 {
-        ground::put(room, 16 + 2 * k, ground::wide_half(slots[k]), 2);
-        k += 1;
+    for k in 0..16 {
+        ground::put(room, 16 + 2 * k, u64::from(slots[k]), 2);
     }
 }
 

@@ -5,7 +5,7 @@ use mathlib.Core.Bool.{Bool, true, false, not}
 use Prim.Native.Nat.{ℕ, ◌-◌, ◌≤◌, ◌<◌}
 use native.Mathlib.Omega.{arith}
 use lib.Dec.{leb}
-use Rattle.rules.specs.declared.Answer.TheVariants.{Done, TaskNumber, BetweenTicks, TooSoon}
+use Rattle.rules.specs.Answers.{Done, TaskNumber, BetweenTicks, TooSoon}
 use Rattle.state.specs.declared.State.{State}
 use Rattle.rules.specs.State as Rules
 use Rattle.rules.specs.Calls as Rule

@@ -1,7 +1,9 @@
 -- The check and what it says
-use mathlib.Core.Path.{◌≡◌}
+use Rattle.std.specs.Prelude.{Err, OnOk}
+use mathlib.Core.Path.{◌≡◌, refl}
 use mathlib.Core.Bool.{true}
 use Rattle.ground.proofs.Tests.{is_true, of_true}
+use Rattle.rules.specs.Answers.{Answer, Done, is_done}
 use Rattle.rules.specs.Holds.{holds}
 use Rattle.state.specs.declared.State.{State}
 use Rattle.state.specs.View.{view, Sized}
@@ -19,3 +21,8 @@ whole_holds s W = is_true (holds_of s) (holding_says s W.sized W.sized.order) (W
 -- and so do the rules of what it shows
 pub view_holds : (s : State) → Whole s → holds (view s) ≡ true
 view_holds s W = W.together
+
+-- what an answer says where it is no refusal
+pub on_done : (P : Type 0) (a : Answer) → (is_done a ≡ true → P) → OnOk a P
+on_done P Done f = f refl
+on_done P (Err r) f = tt

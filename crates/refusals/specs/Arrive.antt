@@ -1,7 +1,6 @@
 -- THE REFUSALS OF ARRIVE, as the code gives them
 use Rattle.std.specs.Prelude.{◌≡◌, Bool, true, false, not, ◌&&◌, List, ℕ, ◌+◌, ◌-◌, ◌/◌, ◌%◌, ◌≤◌, ◌<◌, leb, ltb, eqb, get_or, if◌then◌else◌}
-use Rattle.rules.specs.declared.Answer.{Answer}
-use Rattle.rules.specs.declared.Answer.TheVariants.{Done, TaskNumber, BetweenTicks, TooSoon, NotTogether}
+use Rattle.rules.specs.Answers.{Answer, Done, TaskNumber, BetweenTicks, TooSoon, NotTogether}
 use Rattle.state.specs.declared.State.{State}
 use Rattle.rules.specs.Reasons.{Comes}
 use Rattle.state.specs.View.{view}

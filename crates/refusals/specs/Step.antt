@@ -1,7 +1,6 @@
 -- THE REFUSALS OF STEP AND RUN, as the code gives them
 use Rattle.std.specs.Prelude.{ℕ, ◌*◌, ◌<◌, ◌≤◌, leb, ltb, if◌then◌else◌}
-use Rattle.rules.specs.declared.Answer.{Answer}
-use Rattle.rules.specs.declared.Answer.TheVariants.{Done, HorizonPastClock, HorizonNotLater, RoomTooShort, NotTogether}
+use Rattle.rules.specs.Answers.{Answer, Done, HorizonPastClock, HorizonNotLater, RoomTooShort, NotTogether}
 use Rattle.state.specs.declared.State.{State}
 use Rattle.moves.specs.Whole.{Whole}
 use Rattle.together.specs.Holds.{holds_of}

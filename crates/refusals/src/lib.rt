@@ -1,71 +1,33 @@
-// The refusals of arrive, step and run, decided on the parts of a state that are lent.
+// The refusals of arrive, step and run, decided on a state in lent places.
 #![tactic(auto)]
 
-ghost use Rattle.std.specs.Prelude.{◌≡◌, ◌+◌, ◌≤◌, ltb};
+ghost use Rattle.std.specs.Prelude.{◌≡◌, ◌+◌, ◌≤◌, OnOk, length, ltb};
 ghost use Rattle.rules.specs.Bounds.{clock, most_scale};
-ghost use Rattle.moves.specs.Lent.{state_in};
+ghost use Rattle.state.specs.Lent.{state_in};
+ghost use Rattle.moves.specs.Whole.{Whole};
 ghost use Rattle.refusals.specs.Check.{Checked};
-ghost use Rattle.refusals.specs.Arrive.{comes_by, Dated};
-ghost use Rattle.refusals.specs.Step.{moves_by};
+ghost use Rattle.refusals.specs.Arrive.{arrive_answer_of, comes_by, Dated, MayCome};
+ghost use Rattle.refusals.specs.Step.{step_answer_of, moves_by, Ahead};
 
 use ground::Instant;
-use moves::{Moment, Terms};
-use rules::Answer;
+use rules::Refusal;
+use state::InPlace;
+use table::Columns;
 
-// 13: does the state of these parts hold together? Then it is whole.
-pub fn check(
-    terms: Terms,
-    moment: Moment,
-    period: &[u32; 128],
-    exec: &[u32; 128],
-    deadline: &[u32; 128],
-    share: &[u64; 128],
-    order: &[u16; 128],
-    awake: &[bool; 128],
-    arrived: &[bool; 128],
-    last: &[u64; 128],
-    rk: &[u64; 128],
-    rt: &[u16; 128],
-    wk: &[u64; 128],
-    wt: &[u16; 128],
-    slots: &[u16; 16],
-) -> bool
-    ensures is { Checked (state_in terms moment period.now exec.now deadline.now share.now order.now awake.now arrived.now last.now rk.now rt.now wk.now wt.now slots.now) result }
+// Nothing is done, and the proofs learn that these arrays have their places.
+fn places(order: &[u16; 128], awake: &[bool; 128], slots: &[u16; 16])
+    ensures is { (length order.now ≡ 128) × (length awake.now ≡ 128) × (length slots.now ≡ 16) }
+{}
+
+// Does the state hold together? Then it is whole.
+pub fn check(s: &InPlace, arrived: &[bool; 128], last: &[u64; 128]) -> bool
+    ensures is { Checked (state_in s.entry.now arrived.now last.now) result }
 {
-    ground::measure16(order);
-    ground::measure_flags(awake);
-    ground::measure_flags(arrived);
-    ground::measure64(last);
-    ground::measure64(rk);
-    ground::measure16(rt);
-    ground::measure64(wk);
-    ground::measure16(wt);
-    ground::measure_slots(slots);
-    let present = moment.now;
-    let n = moment.lengths;
-    together::holds_lent(
-        period,
-        exec,
-        deadline,
-        share,
-        order,
-        terms.count,
-        terms.m,
-        terms.scale,
-        present,
-        moment.going,
-        moment.end_tick,
-        awake,
-        arrived,
-        last,
-        rk,
-        rt,
-        n.running,
-        wk,
-        wt,
-        n.waiting,
-        slots,
-    )
+    let crew = &s.crew;
+    crew.running.measure();
+    crew.waiting.measure();
+    places(s.table.order, s.awake, crew.slots);
+    together::holds(s, arrived, last)
 }
 
 // Does a tick lie before the last arrival plus p?
@@ -73,53 +35,80 @@ fn too_soon(tick: u64, last: u64, period: u32) -> bool
     requires dated { last ≤ clock }
     ensures is { result ≡ ltb tick (last + period) }
 {
-    tick < last + ground::wide_word(period)
+    tick < last + u64::from(period)
 }
 
-// The answer to an arrival on a state that holds together: 7, 8, 9 or 0.
+// The answer to an arrival on a state that holds together: no such task, between ticks, or too soon.
 pub fn comes(
-    terms: Terms,
+    table: Columns,
     present: Instant,
-    period: &[u32; 128],
     arrived: &[bool; 128],
     last: &[u64; 128],
     task: u64,
-) -> Answer
-    requires dated { Dated terms.count terms.scale arrived.now last.now }
-    ensures is { result ≡ comes_by terms.count terms.scale present.0 period.now arrived.now last.now task }
+) -> Result<(), Refusal>
+    requires dated { Dated table.rows.count table.scale arrived.now last.now }
+    ensures is { result ≡ comes_by table.entry.rows.count table.entry.scale present.0 table.entry.rows.period.now arrived.now last.now task }
 {
-    if task < 1 {
-        return Answer::TaskNumber;
+    if !(1..=table.rows.count as u64).contains(&task) {
+        return Err(Refusal::TaskNumber);
     }
-    let count = terms.count as u64;
-    if count < task {
-        return Answer::TaskNumber;
-    }
-    if present.0 % terms.scale != 0 {
-        return Answer::BetweenTicks;
+    if present.0 % table.scale != 0 {
+        return Err(Refusal::BetweenTicks);
     }
     let i = (task - 1) as usize;
-    if arrived[i] {
-        if too_soon(present.0 / terms.scale, last[i], period[i]) {
-            return Answer::TooSoon;
-        }
+    if arrived[i] && too_soon(present.0 / table.scale, last[i], table.rows.period[i]) {
+        return Err(Refusal::TooSoon);
     }
-    Answer::Done
+    Ok(())
 }
 
-// The answer to a step or a run on a state that holds together: 12, 10, 11 or 0.
-pub fn may_move(scale: u64, present: Instant, horizon: u64, len: usize) -> Answer
+// The answer to an arrival, and what it lets happen.
+pub fn may_arrive(
+    s: &InPlace,
+    arrived: &[bool; 128],
+    last: &[u64; 128],
+    task: u64,
+) -> Result<(), Refusal>
+    ensures is { result ≡ arrive_answer_of (state_in s.entry.now arrived.now last.now) task }
+    ensures may { let k = state_in s.entry.now arrived.now last.now in OnOk result (Whole k × MayCome k task) }
+{
+    if !check(s, arrived, last) {
+        return Err(Refusal::NotTogether);
+    }
+    comes(s.table, s.now, arrived, last, task)
+}
+
+// The answer to a step or a run on a state that holds together: no room, a horizon past the clock, or one not ahead.
+#[tactic(auto, unfolding(crate::specs::Step::moves_by))]
+pub fn may_move(scale: u64, present: Instant, horizon: u64, len: usize) -> Result<(), Refusal>
     requires small { scale ≤ most_scale }
     ensures is { result ≡ moves_by scale present.0 horizon len }
 {
     if len < rules::RECORD_SIZE {
-        return Answer::RoomTooShort;
+        return Err(Refusal::RoomTooShort);
     }
     if rules::CLOCK < horizon {
-        return Answer::HorizonPastClock;
+        return Err(Refusal::HorizonPastClock);
     }
     if horizon * scale <= present.0 {
-        return Answer::HorizonNotLater;
+        return Err(Refusal::HorizonNotLater);
     }
-    Answer::Done
+    Ok(())
+}
+
+// The answer to a step or a run with that much room, and what it lets happen.
+pub fn may_step(
+    s: &InPlace,
+    arrived: &[bool; 128],
+    last: &[u64; 128],
+    horizon: u64,
+    len: usize,
+) -> Result<(), Refusal>
+    ensures is { result ≡ step_answer_of (state_in s.entry.now arrived.now last.now) horizon len }
+    ensures may { OnOk result (Ahead (state_in s.entry.now arrived.now last.now) horizon len) }
+{
+    if !check(s, arrived, last) {
+        return Err(Refusal::NotTogether);
+    }
+    may_move(s.table.scale, s.now, horizon, len)
 }

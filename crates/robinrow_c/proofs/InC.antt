@@ -7,9 +7,9 @@ use Prim.Native.Nat.{ℕ, suc, ◌*◌, ◌≤◌, ◌<◌}
 use native.Mathlib.Omega.{arith}
 use lib.Dec.{eqb}
 use lib.ListN.{length}
-use Rattle.rules.specs.declared.Answer.{Answer}
-use Rattle.rules.specs.declared.Answer.TheVariants.{Done}
-use Rattle.rules.specs.Answers.{number_of}
+use Rattle.std.specs.Prelude.{Ok, Err}
+use Rattle.rules.specs.Answers.{Answer, Done, number_of, is_done}
+use mathlib.Core.Bool.{Bool}
 use Rattle.rules.specs.Record.{Record}
 use Rattle.rules.specs.Run.{Arrival, Run}
 use Rattle.rules.specs.Table.{Row, rows_of}
@@ -29,7 +29,7 @@ use Rattle.demands.specs.Demands.{Call, Calls, calling, calling_all, starting, s
 use Rattle.demands.specs.Demands.Call.{arrive_call, step_call, run_call}
 use Rattle.demands.proofs.Demands.{demand_3}
 use Rattle.robinrow_c.specs.Struct.{Struct, state_of, struct_of}
-use Rattle.robinrow_c.specs.Exports.{arrive_number, arrive_struct, step_number, step_struct, step_record, run_number, run_count, run_struct, run_records, Held, holding, holding_all, seen_in, NextInC, InC}
+use Rattle.robinrow_c.specs.Exports.{arrive_number, arrive_struct, step_number, step_struct, step_record, run_count, run_struct, run_records, Held, holding, holding_all, seen_in, NextInC, InC}
 use Rattle.robinrow_c.proofs.Struct.{struct_flagged, struct_state}
 use Rattle.robinrow_c.proofs.Refusals.{by_flags}
 
@@ -56,10 +56,6 @@ module _ (s : State) where
     unfolding step_record
     step_record_lem = ap (λ b. if b then step_room (state_of (struct_of s)) h room else room) (struct_flagged s) ∙ ap (λ x. step_room x h room) (struct_state s)
 
-    pub run_number_lem : run_number (struct_of s) h room ≡ number_of (run_of s h (length room)).answer
-    unfolding run_number
-    run_number_lem = ap (λ b. if b then number_of (run_of (state_of (struct_of s)) h (length room)).answer else 13) (struct_flagged s) ∙ ap (λ x. number_of (run_of x h (length room)).answer) (struct_state s)
-
     pub run_struct_lem : run_struct (struct_of s) h room ≡ struct_of (run_of s h (length room)).state
     unfolding run_struct
     run_struct_lem = ap (λ b. if b then struct_of (run_of (state_of (struct_of s)) h (length room)).state else struct_of s) (struct_flagged s) ∙ ap (λ x. struct_of (run_of x h (length room)).state) (struct_state s)
@@ -72,20 +68,35 @@ module _ (s : State) where
     unfolding run_records
     run_records_lem = ap (λ b. if b then run_room (state_of (struct_of s)) h room else room) (struct_flagged s) ∙ ap (λ x. run_room x h room) (struct_state s)
 
+-- number 0 is Done
+number_done : (a : Answer) → eqb (number_of a) 0 ≡ is_done a
+number_done (Ok u) = refl
+number_done (Err r) = grind arith
+
+pub zero_done : (a : Answer) → number_of a ≡ 0 → a ≡ Done
+zero_done a e = done_is a (sym (number_done a) ∙ ap (λ n. eqb n 0) e)
+
 -- calls with the struct of their state
 abbrev held : Calls → Held
 held r = record { struct = struct_of r.state; records = r.records; arrivals = r.arrivals }
 
 -- what an arrival leaves, by its parts
-arrival_parts : (rs : List Record) (xs : List Arrival) (task : ℕ) (c c' : Struct) (n n' tick tick' : ℕ) → c ≡ c' → n ≡ n' → tick ≡ tick'
-    → ◌≡◌ {A = Held} (record { struct = c; records = rs; arrivals = if eqb n 0 then record { task = task; tick = tick } ∷ xs else xs })
-    (record { struct = c'; records = rs; arrivals = if eqb n' 0 then record { task = task; tick = tick' } ∷ xs else xs })
-arrival_parts rs xs task c c' n n' tick tick' e f g = rw (e, f, g)
+arrival_parts : (rs : List Record) (xs : List Arrival) (task : ℕ) (c c' : Struct) (d d' : Bool) (tick tick' : ℕ) → c ≡ c' → d ≡ d' → tick ≡ tick'
+    → ◌≡◌ {A = Held} (record { struct = c; records = rs; arrivals = if d then record { task = task; tick = tick } ∷ xs else xs })
+    (record { struct = c'; records = rs; arrivals = if d' then record { task = task; tick = tick' } ∷ xs else xs })
+arrival_parts rs xs task c c' d d' tick tick' e f g = rw (e, f, g)
+
+module _ (s : State) where
+  arrive_done : (task : ℕ) → eqb (arrive_number (struct_of s) task) 0 ≡ is_done (arrive_of s task).answer
+  arrive_done task = ap (λ n. eqb n 0) (arrive_number_lem s task) ∙ number_done (arrive_of s task).answer
+
+  step_done : (h : ℕ) (room : List ℕ) → eqb (step_number (struct_of s) h room) 0 ≡ is_done (step_of s h (length room)).answer
+  step_done h room = ap (λ n. eqb n 0) (step_number_lem s h room) ∙ number_done (step_of s h (length room)).answer
 
 one : (r : Calls) (c : Call) → holding (held r) c ≡ held (calling r c)
 unfolding holding calling
-one r (arrive_call task) = arrival_parts r.records r.arrivals task _ _ _ _ _ _ (arrive_struct_lem r.state task) (arrive_number_lem r.state task) (ap tick_at (struct_state r.state))
-one r (step_call h room) = rw (step_struct_lem r.state h room, step_number_lem r.state h room, step_record_lem r.state h room)
+one r (arrive_call task) = arrival_parts r.records r.arrivals task _ _ _ _ _ _ (arrive_struct_lem r.state task) (arrive_done r.state task) (ap tick_at (struct_state r.state))
+one r (step_call h room) = rw (step_struct_lem r.state h room, step_done r.state h room, step_record_lem r.state h room)
 one r (run_call h room) = rw (run_struct_lem r.state h room, run_count_lem r.state h room, run_records_lem r.state h room)
 
 all : (r : Calls) (cs : List Call) → foldl holding (held r) cs ≡ held (foldl calling r cs)
@@ -103,10 +114,6 @@ module _ (bytes : List ℕ) (m : ℕ) (cs : List Call) where
 
   same : seen_in (holding_all bytes m cs) ≡ seen (calling_all (starting bytes m) cs)
   same = ap seen_in held_is ∙ ap (λ (x : State). record { state = view x; records = (calling_all (starting bytes m) cs).records; arrivals = (calling_all (starting bytes m) cs).arrivals }) (struct_state (calling_all (starting bytes m) cs).state)
-
--- number 0 is Done
-pub zero_done : (a : Answer) → number_of a ≡ 0 → a ≡ Done
-zero_done a e = done_is a (ap (λ n. eqb n 0) e)
 
 -- WHAT THE NEXT CALL IS ANSWERED
 next_held : (rows : List Row) (r : Calls) → NextOf rows r → NextInC rows (held r)

@@ -5,9 +5,7 @@ use mathlib.Core.Bool.{Bool, true, false}
 use mathlib.Core.List.{List}
 use Prim.Native.Nat.{ℕ}
 use lib.ListN.{length}
-use Rattle.rules.specs.declared.Answer.{Answer}
-use Rattle.rules.specs.declared.Answer.TheVariants.{Done}
-use Rattle.rules.specs.Answers.{number_of}
+use Rattle.rules.specs.Answers.{Answer, Done, number_of}
 use Rattle.admission.specs.Admit.{admit_of}
 use Rattle.inplace.specs.Step.{step_room}
 use Rattle.inplace.specs.Run.{run_room}

@@ -7,8 +7,7 @@ use mathlib.Core.Logic.{inl, inr}
 use Prim.Native.Nat.{ℕ}
 use native.Mathlib.Omega.{arith}
 use lib.ListN.{length}
-use Rattle.rules.specs.declared.Answer.{Answer}
-use Rattle.rules.specs.Answers.{number_of}
+use Rattle.rules.specs.Answers.{Answer, number_of}
 use Rattle.rules.specs.Admission.{admit}
 use Rattle.rules.specs.Calls.{arrive, step}
 use Rattle.state.specs.declared.State.{State}

@@ -2,8 +2,7 @@
 use Rattle.std.specs.Prelude.{◌≡◌, Bool, true, false, ◌&&◌, ◌≢◌, ◌↔◌, ℕ, suc, ◌+◌, ◌*◌, ◌-◌, ◌≤◌, ◌<◌, eqb, length, get_or, if◌then◌else◌}
 use mathlib.Core.List.{List, [], ◌∷◌, ◌++◌, foldl}
 use Rattle.std.proofs.Math.Option.{some}
-use Rattle.rules.specs.declared.Answer.TheVariants.{NotTogether}
-use Rattle.rules.specs.Answers.{number_of}
+use Rattle.rules.specs.Answers.{NotTogether, number_of}
 use Rattle.rules.specs.Bounds.{clock, record_size}
 use Rattle.rules.specs.Table.{Row, rows_of}
 use Rattle.rules.specs.Scale.{scale_of}

@@ -8,12 +8,11 @@ use native.Mathlib.Omega.{arith}
 use lib.Dec.{leb, ltb}
 use lib.ListN.{length, get_or}
 use Rattle.rules.specs.Bounds.{most_scale, most_ticks}
-use Rattle.rules.specs.declared.Answer.TheVariants.{Done, RowRange, RowExecution, Scale, Shares}
+use Rattle.rules.specs.Answers.{Done, RowRange, RowExecution, Scale, Shares, is_done}
 use Rattle.ground.specs.Sums.{sum_of}
 use Rattle.ground.specs.Tests.{Says}
 use Rattle.ground.proofs.Tests.{leb_says, ltb_says, and_says, says_as}
 use Rattle.rules.specs.Admission.{fault_of, Verdict, plain, fault_from, size_verdict, or_else, rows_verdict}
-use Rattle.rules.specs.Answers.{is_done}
 use Rattle.rules.specs.Reasons.{InRange, RowInRange, RowOk}
 use Rattle.rules.specs.Scale.{scale_of, share_of, fits}
 use Rattle.rules.specs.State.{no_row}

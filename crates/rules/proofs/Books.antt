@@ -4,10 +4,9 @@ use mathlib.Core.Path.{◌≡◌, refl, sym, ◌∙◌, ap, subst}
 use mathlib.Core.Option.{Option, none, some}
 use mathlib.Core.List.{List, [], ◌∷◌, ◌++◌}
 use Prim.Native.Nat.{ℕ, suc, ◌+◌, ◌*◌, ◌-◌, ◌/◌, ◌≤◌, ◌<◌, min, max}
-use native.Mathlib.Nat.{mul-le-mul_right, lt_of_mul-lt-mul_right}
-use native.Mathlib.Decide.{dec_lt}
 use native.Mathlib.Omega.{arith}
 use lib.ListN.{length}
+use Rattle.std.proofs.lemmas.Nat.{le-div}
 use Rattle.ground.specs.Sums.{sum_of, times}
 use Rattle.ground.proofs.Sums.{sum_of_append}
 use Rattle.rules.specs.Calls.{wake}
@@ -77,10 +76,6 @@ abbrev pub Books : State → Option ℕ → List Record → Type 0
 Books s none rs = Closing s.scale s.now s.tasks rs
 Books s (some e) rs = RunningBooks s.scale s.now e s.tasks rs
 
--- an arrival is before the plane's end
-pub came_before : {m scale now e : ℕ} (l : List Task) → Running m scale now e l → (j : ℕ) → Awake (at j l) → last_of (at j l) < e
-came_before {scale = scale} {e = e} l P j w = lt_of_mul-lt-mul_right scale (omega (arith, awake_came P.lasts j w, P.going.later))
-
 -- OPENING
 ready_left : (len : ℕ) (t : Task) → Awake t → amount (ready len t) ≡ t.share * len
 ready_left len t w = ap (λ b. amount (if b then be (waiting (t.share * len)) t else t)) w
@@ -97,16 +92,9 @@ opens_books {m} {scale} {now} l rs P B j w =
     let left : amount (at j k) ≡ (at j l).share * len = ap (λ (c : Core). c.left) (O.same j) ∙ ready_left len (at j l) aw in
     let lt = end_later l P in
     let pos = (facts l P.table).scale_pos in
-    let came : last_of (at j l) ≤ now / scale = no_later (last_of (at j l)) pos (awake_came P.lasts j aw) P.shut.whole in
+    let came : last_of (at j l) ≤ now / scale = le-div (last_of (at j l)) now scale pos (awake_came P.lasts j aw) in
     let p : end_of (now / scale) l - last_of (at j l) ≡ (now / scale - last_of (at j l)) + len = omega arith in
     rw (last, share, left) (omega (arith, B j aw, ap (λ x. (at j l).share * x) p))
-  where
-    no_later : (a : ℕ) → 0 < scale → a * scale ≤ now → now / scale * scale ≡ now → a ≤ now / scale
-    no_later a pos h e = go (dec_lt (now / scale) a)
-      where
-        go : Dec (now / scale < a) → a ≤ now / scale
-        go (yes q) = let q' : suc (now / scale) ≤ a = q in absurd (omega (arith, mul-le-mul_right scale q'))
-        go (no q) = omega arith
 
 -- RUNNING ON AND CLOSING: the record of what runs until the instant `to`
 module _ {m scale now e : ℕ} (l : List Task) (rs : List Record) (P : Running m scale now e l) (B : RunningBooks scale now e l rs) (F : Follows 0 rs now) (to : ℕ) (later : now < to)

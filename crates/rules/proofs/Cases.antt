@@ -1,5 +1,7 @@
 -- Definitions that go by cases, as functions of what they distinguish
 use Rattle.std.specs.Prelude.{if◌then◌else◌}
+use mathlib.Core.Path.{◌≡◌, refl}
+use native.Mathlib.Omega.{arith}
 use mathlib.Core.Option.{Option, none, some, get_or}
 use mathlib.Core.List.{List}
 use Prim.Native.Nat.{ℕ, ◌+◌, ◌*◌, ◌-◌}
@@ -26,6 +28,21 @@ waits_of c = elim c [ asleep ↦ 0 | resting ↦ 0 | running p a ↦ 0 | waiting
 
 abbrev pub on_of_lem : ℕ → Cond → ℕ
 on_of_lem p c = elim c [ asleep ↦ 0 | resting ↦ 0 | running p' a ↦ (if eqb p' p then 1 else 0) | waiting a ↦ 0 ]
+
+-- of one that neither runs nor waits
+pub idle_amount : (c : Cond) → runs_of c + waits_of c ≡ 0 → amount_of c ≡ 0
+idle_amount asleep h = refl
+idle_amount resting h = refl
+idle_amount (running p a) h = absurd (omega arith)
+idle_amount (waiting a) h = absurd (omega arith)
+
+pub idle_proc : (c : Cond) → runs_of c + waits_of c ≡ 0 → proc_of c ≡ 0
+idle_proc (running p a) h = absurd (omega arith)
+idle_proc other h = refl
+
+pub idle_on : (p : ℕ) (c : Cond) → runs_of c + waits_of c ≡ 0 → on_of_lem p c ≡ 0
+idle_on p (running p' a) h = absurd (omega arith)
+idle_on p other h = refl
 
 abbrev pub run_key_of : ℕ → Cond → Option ℕ
 run_key_of now c = elim c [ asleep ↦ none | resting ↦ none | running p a ↦ some (now + a) | waiting a ↦ none ]

@@ -12,14 +12,13 @@ use native.Mathlib.Omega.{arith}
 use native.Mathlib.Decide.{dec_lt}
 use lib.ListN.{length, get_or, length-map}
 use Rattle.rules.specs.Bounds.{clock, record_size}
-use Rattle.rules.specs.declared.Answer.TheVariants.{Done}
+use Rattle.rules.specs.Answers.{Done, is_done}
 use Rattle.rules.specs.Admission.{admit}
 use lib.ListN.{replicate}
 use lib.Seq.{get_or-append-add}
 use lib.Dec.{eqb}
 use Rattle.ground.specs.Sums.{up_from}
 use Rattle.ground.proofs.Times.{up_length}
-use Rattle.rules.specs.Answers.{is_done}
 use Rattle.rules.specs.Events.{next_at}
 use Rattle.rules.specs.Planes.{end_of, opened}
 use Rattle.rules.specs.Record.{Record, on_proc, slots_of}
@@ -216,7 +215,7 @@ demand_3 = record {
   where
     found : (bytes : List ℕ) (m : ℕ) (before : List Call) (task : ℕ) → (arrive (run_of bytes m before).state task).answer ≡ Done → (later : List Call)
         → In (record { task = task; tick = tick_of (run_of bytes m before).state }) (run_of bytes m (before ++ arrive_call task ∷ later)).arrivals
-    found bytes m before task a later = unfold run_of in (subst (λ (r : Run). In x r.arrivals) (sym (all_split before (arrive_call task ∷ later) start)) (unfold perform_all in (all_in x later (perform r (arrive_call task)) here)))
+    found bytes m before task a later = unfold run_of perform_all in (subst (λ (r : Run). In x r.arrivals) (sym (all_split perform start before (arrive_call task ∷ later))) (all_in x later (perform r (arrive_call task)) here))
       where
         start : Run
         start = starting (admit bytes m).state

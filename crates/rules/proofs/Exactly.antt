@@ -6,7 +6,7 @@ use Prim.Native.Nat.{ℕ, ◌≤◌, ◌<◌}
 use native.Mathlib.Nat.{le_of_dvd}
 use native.Mathlib.Omega.{arith}
 use lib.ListN.{length, get_or}
-use Rattle.rules.specs.declared.Answer.{Answer}
+use Rattle.rules.specs.Answers.{Answer}
 use Rattle.rules.specs.Admission.{Verdict, admit_verdict, admit}
 use Rattle.rules.specs.Calls.{arrive, step}
 use Rattle.rules.specs.Exactly.{ExactlyWhen, Multiple, Measures}

@@ -7,12 +7,10 @@ use native.Mathlib.Nat.{dvd_refl}
 use native.Mathlib.Omega.{arith}
 use lib.Dec.{lit≤}
 use lib.ListN.{length}
-use Rattle.rules.specs.declared.Answer.{Answer}
-use Rattle.rules.specs.declared.Answer.TheVariants.{Done, RowExecution, Scale, TooSoon}
+use Rattle.rules.specs.Answers.{Answer, Done, RowExecution, Scale, TooSoon, number_of, is_done}
 use Rattle.ground.specs.Sums.{sum_of}
 use Rattle.rules.specs.Admission.{Verdict, admit}
 use Rattle.rules.specs.Answered.{admits}
-use Rattle.rules.specs.Answers.{number_of, is_done}
 use Rattle.rules.specs.Calls.{arrive_answer}
 use Rattle.rules.specs.Figures.{ArrivedAgo, Figures}
 use Rattle.rules.specs.Listings.{row, scale_in}

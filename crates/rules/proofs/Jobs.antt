@@ -1,23 +1,21 @@
 -- What is true of every job, after any calls
-use Rattle.std.specs.Prelude.{if◌then◌else◌}
+use Rattle.std.specs.Prelude.{Err, if◌then◌else◌}
 use mathlib.Core.Path.{◌≡◌, refl, sym, ◌∙◌, ap, subst}
 use mathlib.Core.Bool.{Bool, true, false, ◌&&◌}
 use mathlib.Core.Option
-use mathlib.Core.Option.{Option, none, some}
+use mathlib.Core.Option.{Option, none, some, some-injective}
 use mathlib.Core.Logic.{◌≢◌, ◌⊎◌, inl, inr}
-use mathlib.Core.List.{List, [], ◌∷◌, ◌++◌, map}
+use mathlib.Core.List.{List, [], ◌∷◌, ◌++◌, foldl, map}
 use Prim.Native.Nat.{ℕ, suc, ◌+◌, ◌*◌, ◌-◌, ◌/◌, ◌≤◌, ◌<◌}
 use native.Mathlib.Nat.{mul-le-mul_right, lt_of_mul-lt-mul_right, le_of_mul-le-mul_right}
 use native.Mathlib.Decide.{dec_le, ℕ_discrete}
 use native.Mathlib.Omega.{arith}
 use lib.Dec.{leb, ltb, eqb}
 use lib.ListN.{length, get_or, drop, length-map}
-use Rattle.rules.specs.declared.Answer.{Answer}
-use Rattle.rules.specs.declared.Answer.TheVariants.{Done, Processors, TableLength, RowRange, RowExecution, Scale, Shares, TaskNumber, BetweenTicks, TooSoon, HorizonPastClock, HorizonNotLater, RoomTooShort, NotTogether, TextForm}
+use Rattle.rules.specs.Answers.{Answer, Done, is_done}
 use Rattle.ground.specs.Sums.{times}
 use Rattle.ground.specs.Tests.{Says}
 use Rattle.ground.proofs.Tests.{leb_says, ltb_says, eqb_says, is_true, is_false}
-use Rattle.rules.specs.Answers.{is_done}
 use Rattle.rules.specs.Calls.{lowest_idle, arrive_in, arriving, arrive_answer, arrive, moving, step_answer, step}
 use Rattle.rules.specs.Demands.{Reached, Job}
 use Rattle.rules.specs.History.{earliest, limits_by, ran, Once, In, Working, Follows, EndsAt, came_by, limit_by, plane_end}
@@ -65,18 +63,12 @@ pub record Good (rows : List Row) (r : Run) : Type 0 where
 
 came_in : (n t a : ℕ) (xs : List Arrival) → came_by n t xs ≡ some a → In (record { task = n; tick = a }) xs
 unfolding came_by
-came_in n t a [] e = not_none e
-  where
-    not_none : {X : Type 0} → ◌≡◌ {A = Option ℕ} none (some a) → X
-    not_none z = let y : ◌≡◌ {A = ℕ} 0 1 = cc in absurd (omega arith)
+came_in n t a [] e = never e
 came_in n t a (x ∷ xs) e = go (eqb x.task n) (eqb_says x.task n) (leb x.tick t) e (came_in n t a xs)
   where
-    inside : ◌≡◌ {A = Option ℕ} (some x.tick) (some a) → x.tick ≡ a
-    inside z = cc
-
     go : (b : Bool) → Says (x.task ≡ n) b → (c : Bool) → (if b && c then some x.tick else came_by n t xs) ≡ some a → (came_by n t xs ≡ some a → In (record { task = n; tick = a }) xs)
         → In (record { task = n; tick = a }) (x ∷ xs)
-    go true q true z f = inl (sym (arrival_is q (inside z)))
+    go true q true z f = inl (sym (arrival_is q (some-injective x.tick a z)))
       where
         arrival_is : {n n' a a' : ℕ} → n ≡ n' → a ≡ a' → ◌≡◌ {A = Arrival} (record { task = n; tick = a }) (record { task = n'; tick = a' })
         arrival_is p q = rw (p, q)
@@ -484,20 +476,7 @@ arrive_good rows r G task d = rw d (came_good rows r G task (subst (ArriveReason
 -- done, or refused
 pub by_answer : (P : Type 0) (a : Answer) → (a ≡ Done → P) → (is_done a ≡ false → P) → P
 by_answer P Done f g = f refl
-by_answer P Processors f g = g refl
-by_answer P TableLength f g = g refl
-by_answer P RowRange f g = g refl
-by_answer P RowExecution f g = g refl
-by_answer P Scale f g = g refl
-by_answer P Shares f g = g refl
-by_answer P TaskNumber f g = g refl
-by_answer P BetweenTicks f g = g refl
-by_answer P TooSoon f g = g refl
-by_answer P HorizonPastClock f g = g refl
-by_answer P HorizonNotLater f g = g refl
-by_answer P RoomTooShort f g = g refl
-by_answer P NotTogether f g = g refl
-by_answer P TextForm f g = g refl
+by_answer P (Err r) f g = g refl
 
 -- the answer 0
 pub done_is : (a : Answer) → is_done a ≡ true → a ≡ Done
@@ -514,10 +493,9 @@ unfolding perform_all
 run_good rows [] r G = G
 run_good rows (c ∷ cs) r G = run_good rows cs (perform r c) (perform_good rows r c G)
 
-pub all_split : (cs ds : List Call) (r : Run) → perform_all r (cs ++ ds) ≡ perform_all (perform_all r cs) ds
-unfolding perform_all
-all_split [] ds r = refl
-all_split (c ∷ cs) ds r = all_split cs ds (perform r c)
+pub all_split : {A B : Type 0} (f : A → B → A) (r : A) (cs ds : List B) → foldl f r (cs ++ ds) ≡ foldl f (foldl f r cs) ds
+all_split f r [] ds = refl
+all_split f r (c ∷ cs) ds = all_split f (f r c) cs ds
 
 -- an arrival once taken stays among the arrivals
 pub still_in : (x : Arrival) (r : Run) (c : Call) → In x r.arrivals → In x (perform r c).arrivals

@@ -16,9 +16,9 @@ use Rattle.rules.specs.Events.{spend, advance, events}
 use Rattle.rules.specs.Planes.{limit, end_of, open_tasks, close_task, closed}
 use Rattle.rules.specs.Scale.{scale_of}
 use Rattle.rules.specs.State.{running, Cond, asleep, resting, waiting, Task, nobody, at, short, be, due, is_awake, runs, waits, on}
-use Rattle.rules.specs.Table.{Row, shorter}
+use Rattle.rules.specs.Table.{Row}
 use Rattle.rules.proofs.Together.{Awake, Table, Seats, Lasts, Shut, Going}
-use Rattle.rules.proofs.Cases.{proc_of, runs_of, waits_of, on_of_lem}
+use Rattle.rules.proofs.Cases.{idle_proc, idle_on}
 use Rattle.rules.proofs.Events.{Stands, Core, core, Kept, events_ok}
 use Rattle.rules.proofs.Opening.{ready, opens}
 use Rattle.rules.proofs.Standing.{facts, awake_inside, going_stands, shut_closed}
@@ -74,9 +74,6 @@ lasts_kept {scale} A h L = record {
   known = λ j w. let k = L.known j (A.awake j w) in (k.0, A.last j ∙ k.1);
   came = λ j a e. omega (arith, L.came j a (sym (A.last j) ∙ e));
 }
-
-short_kept : {l k : List Task} → Alike l k → (j : ℕ) → short (at j k) ≡ short (at j l)
-short_kept A j = ap shorter (A.row j)
 
 -- everything that holds in an open plane
 pub record Running (m scale now e : ℕ) (l : List Task) : Type 0 where
@@ -175,21 +172,9 @@ pub record Resting (m scale now : ℕ) (l : List Task) : Type 0 where
 pub idle_seats : (m : ℕ) (l : List Task) → ((j : ℕ) → runs (at j l) + waits (at j l) ≡ 0) → Seats m l
 idle_seats m l h = record {
   low = λ j. omega (arith, h j);
-  high = λ j. omega (arith, no_proc (at j l).cond (h j));
-  apart = λ p. omega (arith, sum_of_none (on p) nobody l (λ j hj. not_on p (at j l).cond (h j)));
+  high = λ j. omega (arith, idle_proc (at j l).cond (h j));
+  apart = λ p. omega (arith, sum_of_none (on p) nobody l (λ j hj. idle_on p (at j l).cond (h j)));
 }
-  where
-    no_proc : (c : Cond) → runs_of c + waits_of c ≡ 0 → proc_of c ≡ 0
-    no_proc asleep h = refl
-    no_proc resting h = refl
-    no_proc (running p a) h = absurd (omega arith)
-    no_proc (waiting a) h = refl
-
-    not_on : (p : ℕ) (c : Cond) → runs_of c + waits_of c ≡ 0 → on_of_lem p c ≡ 0
-    not_on p asleep h = refl
-    not_on p resting h = refl
-    not_on p (running p' a) h = absurd (omega arith)
-    not_on p (waiting a) h = refl
 
 pub closes_alike : (d e : ℕ) (l : List Task) → Alike l (closed e (advance d l))
 unfolding closed

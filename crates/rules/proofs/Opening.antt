@@ -16,7 +16,7 @@ use Rattle.ground.proofs.Tests.{ltb_says, if_by}
 use Rattle.ground.proofs.Times.{same_yes, same_no, times_place, by_same, times_cons}
 use Rattle.rules.specs.Planes.{falling, shares_of, enter_as, enter, open_tasks}
 use Rattle.rules.specs.State.{Cond, asleep, resting, running, waiting, Task, nobody, at, be, become, is_awake, amount, proc, runs, waits, on, awake_share}
-use Rattle.rules.proofs.Cases.{amount_of, proc_of, runs_of, waits_of, on_of_lem}
+use Rattle.rules.proofs.Cases.{amount_of, runs_of, waits_of, idle_amount, idle_proc, idle_on}
 use Rattle.rules.proofs.Events.{Stands, Core, core_in, core}
 use Rattle.rules.proofs.Falling.{Ahead, Below, Falls, ahead_asym, falling_below, falling_falls, falling_once}
 use Rattle.rules.proofs.Places.{at_same, at_other, length_become, sum_become, all_become, inside}
@@ -276,11 +276,11 @@ module _ (m len scale : ℕ) (hl : 0 < len) (hs : 0 < scale) (l : List Task) (C 
     size = refl;
     rest = λ j h. refl;
     gone = λ j h. past j h (dec_lt j (length l));
-    small = λ j. omega (arith, none_left (at j l).cond (C.idle j));
+    small = λ j. omega (arith, idle_amount (at j l).cond (C.idle j));
     left = λ j. omega (arith, C.idle j);
     alive = λ j. omega (arith, C.idle j);
     low = λ j. omega (arith, C.idle j);
-    high = λ j. omega (arith, no_proc (at j l).cond (C.idle j));
+    high = λ j. omega (arith, idle_proc (at j l).cond (C.idle j));
     apart = λ p. omega (arith, none_on p);
     free = λ p h. none_on p;
     most = omega (arith, none_run);
@@ -289,26 +289,8 @@ module _ (m len scale : ℕ) (hl : 0 < len) (hs : 0 < scale) (l : List Task) (C 
     front = λ x y t r. absurd (omega (arith, C.idle y));
   }
     where
-      none_left : (c : Cond) → runs_of c + waits_of c ≡ 0 → amount_of c ≡ 0
-      none_left asleep h = refl
-      none_left resting h = refl
-      none_left (running p a) h = absurd (omega arith)
-      none_left (waiting a) h = absurd (omega arith)
-
-      no_proc : (c : Cond) → runs_of c + waits_of c ≡ 0 → proc_of c ≡ 0
-      no_proc asleep h = refl
-      no_proc resting h = refl
-      no_proc (running p a) h = absurd (omega arith)
-      no_proc (waiting a) h = refl
-
-      not_on : (p : ℕ) (c : Cond) → runs_of c + waits_of c ≡ 0 → on_of_lem p c ≡ 0
-      not_on p asleep h = refl
-      not_on p resting h = refl
-      not_on p (running p' a) h = absurd (omega arith)
-      not_on p (waiting a) h = refl
-
       none_on : (p : ℕ) → sum_of (on p) l ≡ 0
-      none_on p = sum_of_none (on p) nobody l (λ j hj. not_on p (at j l).cond (C.idle j))
+      none_on p = sum_of_none (on p) nobody l (λ j hj. idle_on p (at j l).cond (C.idle j))
 
       none_run : sum_of runs l ≡ 0
       none_run = sum_of_none runs nobody l (λ j hj. omega (arith, C.idle j))

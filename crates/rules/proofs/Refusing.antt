@@ -9,13 +9,11 @@ use native.Mathlib.Omega.{arith}
 use lib.Dec.{leb, ltb, eqb}
 use lib.ListN.{length, get_or}
 use Rattle.rules.specs.Bounds.{clock, most_scale}
-use Rattle.rules.specs.declared.Answer.{Answer}
-use Rattle.rules.specs.declared.Answer.TheVariants.{Done, Processors, TableLength, RowRange, RowExecution, Scale, Shares, TaskNumber, BetweenTicks, TooSoon, HorizonPastClock, HorizonNotLater, RoomTooShort, NotTogether, TextForm}
+use Rattle.rules.specs.Answers.{Answer, Done, Processors, TableLength, RowRange, RowExecution, Scale, Shares, TaskNumber, BetweenTicks, TooSoon, HorizonPastClock, HorizonNotLater, RoomTooShort, NotTogether, is_done}
 use Rattle.ground.specs.Sums.{sum_of}
 use Rattle.ground.specs.Tests.{Says}
 use Rattle.ground.proofs.Tests.{leb_says, ltb_says, eqb_says, and_says, says_as, is_true, is_false}
 use Rattle.rules.specs.Admission.{processors_ok, length_ok, fault_of, Verdict, plain, fault_from, size_verdict, or_else, rows_verdict, admit_verdict}
-use Rattle.rules.specs.Answers.{is_done}
 use Rattle.rules.specs.Calls.{task_known, too_soon, arrive_answer, step_answer}
 use Rattle.rules.specs.Holds.{holds}
 use Rattle.rules.specs.Reasons.{ProcessorsOk, LengthOk, RowInRange, RowOk, RowsOk, AdmitReason, TaskKnown, OnTick, Soon, ArriveReason, StepReason}
@@ -76,18 +74,7 @@ abbrev RowFault : Row → Answer → Type 0
 RowFault r Done = RowOk r
 RowFault r RowRange = ¬ RowInRange r
 RowFault r RowExecution = RowInRange r × (shorter r < r.exec)
-RowFault r Processors = ⊥
-RowFault r TableLength = ⊥
-RowFault r Scale = ⊥
-RowFault r Shares = ⊥
-RowFault r TaskNumber = ⊥
-RowFault r BetweenTicks = ⊥
-RowFault r TooSoon = ⊥
-RowFault r HorizonPastClock = ⊥
-RowFault r HorizonNotLater = ⊥
-RowFault r RoomTooShort = ⊥
-RowFault r NotTogether = ⊥
-RowFault r TextForm = ⊥
+RowFault r other = ⊥
 
 row_answers : (r : Row) → RowFault r (fault_of r)
 row_answers r = go (row_in_range r) (row_says r) (ltb (shorter r) r.exec) (ltb_says (shorter r) r.exec)
@@ -104,18 +91,7 @@ Fault n rs RowExecution i =
     (n < i) × (i ≤ n + length rs) × ((j : ℕ) → n + j + 1 < i → RowOk (get_or rs j no_row)) × RowInRange (get_or rs (i - n - 1) no_row)
     × (shorter (get_or rs (i - n - 1) no_row) < (get_or rs (i - n - 1) no_row).exec)
 Fault n rs Done i = (i ≡ 0) × RowsOk rs
-Fault n rs Processors i = ⊥
-Fault n rs TableLength i = ⊥
-Fault n rs Scale i = ⊥
-Fault n rs Shares i = ⊥
-Fault n rs TaskNumber i = ⊥
-Fault n rs BetweenTicks i = ⊥
-Fault n rs TooSoon i = ⊥
-Fault n rs HorizonPastClock i = ⊥
-Fault n rs HorizonNotLater i = ⊥
-Fault n rs RoomTooShort i = ⊥
-Fault n rs NotTogether i = ⊥
-Fault n rs TextForm i = ⊥
+Fault n rs other i = ⊥
 
 -- a row in order in front
 fault_later : (n : ℕ) (r : Row) (rs : List Row) → RowOk r → (a : Answer) (i : ℕ) → Fault (suc n) rs a i → Fault n (r ∷ rs) a i
@@ -132,22 +108,14 @@ fault_later n r rs ok a i f = by a f
     by RowRange f = (omega (arith, f.0), omega (arith, f.1), before f.2, rw (there f.0) f.3)
     by RowExecution f = (omega (arith, f.0), omega (arith, f.1), before f.2, rw (there f.0) f.3, rw (there f.0) f.4)
     by Done f = (f.0, elim [ zero ↦ λ _. ok | suc j ↦ λ h. f.1 j (omega arith) ])
-    by Processors f = f
-    by TableLength f = f
-    by Scale f = f
-    by Shares f = f
-    by TaskNumber f = f
-    by BetweenTicks f = f
-    by TooSoon f = f
-    by HorizonPastClock f = f
-    by HorizonNotLater f = f
-    by RoomTooShort f = f
-    by NotTogether f = f
-    by TextForm f = f
+    by other f = f
 
--- the verdict on the rows from number n + 1 on, if the first has the fault a
+-- the verdict on the rows from number n on, if the first has the fault a
+abbrev found_by : Bool → ℕ → List Row → Answer → Verdict
+found_by done n rs a = elim done [ true ↦ fault_from (suc n) rs | false ↦ record { answer = a; row = n } ]
+
 abbrev found : ℕ → List Row → Answer → Verdict
-found n rs a = elim (is_done a) as (λ _. Verdict) [ true ↦ fault_from (suc (suc n)) rs | false ↦ record { answer = a; row = suc n } ]
+found n rs a = found_by (is_done a) n rs a
 
 faults_answers : (n : ℕ) (rs : List Row) → Fault n rs (fault_from (suc n) rs).answer (fault_from (suc n) rs).row
 unfolding fault_from
@@ -158,22 +126,11 @@ faults_answers n (r ∷ rs) = go (fault_of r) (row_answers r) (faults_answers (s
     here = let e : suc n - n - 1 ≡ 0 = omega arith in rw e
 
     go : (a : Answer) → RowFault r a → Fault (suc n) rs (fault_from (suc (suc n)) rs).answer (fault_from (suc (suc n)) rs).row
-        → Fault n (r ∷ rs) (found n rs a).answer (found n rs a).row
+        → Fault n (r ∷ rs) (found (suc n) rs a).answer (found (suc n) rs a).row
     go Done p ih = fault_later n r rs p (fault_from (suc (suc n)) rs).answer (fault_from (suc (suc n)) rs).row ih
     go RowRange p ih = (omega arith, omega arith, (λ j h. absurd (omega arith)), rw here p)
     go RowExecution p ih = (omega arith, omega arith, (λ j h. absurd (omega arith)), rw here p.0, rw here p.1)
-    go Processors p ih = absurd p
-    go TableLength p ih = absurd p
-    go Scale p ih = absurd p
-    go Shares p ih = absurd p
-    go TaskNumber p ih = absurd p
-    go BetweenTicks p ih = absurd p
-    go TooSoon p ih = absurd p
-    go HorizonPastClock p ih = absurd p
-    go HorizonNotLater p ih = absurd p
-    go RoomTooShort p ih = absurd p
-    go NotTogether p ih = absurd p
-    go TextForm p ih = absurd p
+    go other p ih = absurd p
 
 length_says : (n : ℕ) → Says (LengthOk n) (length_ok n)
 length_says n =
@@ -205,18 +162,7 @@ admit_answers bytes m = go (processors_ok m) (processors_says m) (length_ok (len
     rows p q RowExecution i f =
         let e : i - 0 - 1 ≡ i - 1 = omega arith in
         (f.0, omega (arith, f.1), p, q, (λ j h. f.2 j (omega arith)), rw e at f.3, rw e at f.4)
-    rows p q Processors i f = absurd f
-    rows p q TableLength i f = absurd f
-    rows p q Scale i f = absurd f
-    rows p q Shares i f = absurd f
-    rows p q TaskNumber i f = absurd f
-    rows p q BetweenTicks i f = absurd f
-    rows p q TooSoon i f = absurd f
-    rows p q HorizonPastClock i f = absurd f
-    rows p q HorizonNotLater i f = absurd f
-    rows p q RoomTooShort i f = absurd f
-    rows p q NotTogether i f = absurd f
-    rows p q TextForm i f = absurd f
+    rows p q other i f = absurd f
 
     go : (a : Bool) → Says (ProcessorsOk m) a → (b : Bool) → Says (LengthOk (length bytes)) b
         → AdmitReason bytes m (if a then (if b then or_else (fault_from 1 (rows_of bytes)) (size_verdict m (rows_of bytes)) else plain TableLength) else plain Processors).answer
@@ -235,22 +181,15 @@ row_out r h = rw (is_false (row_in_range r) (row_says r) h)
 row_over : (r : Row) → RowInRange r → shorter r < r.exec → fault_of r ≡ RowExecution
 row_over r h q = rw (is_true (row_in_range r) (row_says r) h, is_true (ltb (shorter r) r.exec) (ltb_says (shorter r) r.exec) q)
 
-fault_turn : (n : ℕ) (r : Row) (rs : List Row) (a : Answer) → fault_of r ≡ a → fault_from n (r ∷ rs) ≡ (if is_done a then fault_from (suc n) rs else record { answer = a; row = n })
+fault_turn : (n : ℕ) (r : Row) (rs : List Row) (a : Answer) → fault_of r ≡ a → fault_from n (r ∷ rs) ≡ found n rs a
 unfolding fault_from
-fault_turn n r rs a e = by ∙ ap (λ (x : Answer). if is_done x then fault_from (suc n) rs else record { answer = x; row = n }) e
-  where
-    as_if : (b : Bool) (v w : Verdict) → (elim b as (λ _. Verdict) [ true ↦ v | false ↦ w ]) ≡ (if b then v else w)
-    as_if true v w = refl
-    as_if false v w = refl
-
-    by : (elim (is_done (fault_of r)) as (λ _. Verdict) [ true ↦ fault_from (suc n) rs | false ↦ record { answer = fault_of r; row = n } ]) ≡ (if is_done (fault_of r) then fault_from (suc n) rs else record { answer = fault_of r; row = n })
-    by = as_if (is_done (fault_of r)) (fault_from (suc n) rs) (record { answer = fault_of r; row = n })
+fault_turn n r rs a e = ap (found n rs) e
 
 -- the first faulty row is found: the rows before the place k are in order, and the one there has the fault a
 first_fault : (n : ℕ) (rs : List Row) (k : ℕ) (a : Answer) → k < length rs → ((j : ℕ) → j < k → RowOk (get_or rs j no_row)) → fault_of (get_or rs k no_row) ≡ a → is_done a ≡ false
     → fault_from n rs ≡ record { answer = a; row = n + k }
 first_fault n [] k a hk ok e d = absurd (omega arith)
-first_fault n (r ∷ rs) zero a hk ok e d = let z : n + 0 ≡ n = omega arith in fault_turn n r rs a e ∙ rw (d, z)
+first_fault n (r ∷ rs) zero a hk ok e d = let z : n + 0 ≡ n = omega arith in fault_turn n r rs a e ∙ ap (λ b. found_by b n rs a) d ∙ rw z
 first_fault n (r ∷ rs) (suc k) a hk ok e d =
     let z : n + suc k ≡ suc n + k = omega arith in
     fault_turn n r rs Done (row_ok r (ok 0 (omega arith))) ∙ rw z (first_fault (suc n) rs k a (omega arith) (λ j h. ok (suc j) (omega arith)) e d)
@@ -300,14 +239,7 @@ admit_exact bytes m Done i h =
       is_true (leb (sum_of (share_of (scale_of rs)) rs) (m * scale_of rs)) (leb_says (sum_of (share_of (scale_of rs)) rs) (m * scale_of rs)) h.5,
       h.0,
     )
-admit_exact bytes m TaskNumber i h = absurd h
-admit_exact bytes m BetweenTicks i h = absurd h
-admit_exact bytes m TooSoon i h = absurd h
-admit_exact bytes m HorizonPastClock i h = absurd h
-admit_exact bytes m HorizonNotLater i h = absurd h
-admit_exact bytes m RoomTooShort i h = absurd h
-admit_exact bytes m NotTogether i h = absurd h
-admit_exact bytes m TextForm i h = absurd h
+admit_exact bytes m other i h = absurd h
 
 pub arrive_exact : (s : State) (task : ℕ) (a : Answer) → ArriveReason s task a → arrive_answer s task ≡ a
 unfolding arrive_answer
@@ -321,16 +253,7 @@ arrive_exact s task TooSoon h =
 arrive_exact s task Done h =
     let t = at (task - 1) s.tasks in
     rw (h.0, is_true (task_known s task) (known_says s task) h.1, is_true (on_tick s) (on_tick_says s) h.2, is_false (too_soon (tick_of s) t) (soon_says s t) h.3)
-arrive_exact s task Processors h = absurd h
-arrive_exact s task TableLength h = absurd h
-arrive_exact s task RowRange h = absurd h
-arrive_exact s task RowExecution h = absurd h
-arrive_exact s task Scale h = absurd h
-arrive_exact s task Shares h = absurd h
-arrive_exact s task HorizonPastClock h = absurd h
-arrive_exact s task HorizonNotLater h = absurd h
-arrive_exact s task RoomTooShort h = absurd h
-arrive_exact s task TextForm h = absurd h
+arrive_exact s task other h = absurd h
 
 pub step_exact : (s : State) (horizon room : ℕ) (a : Answer) → StepReason s horizon room a → step_answer s horizon room ≡ a
 unfolding step_answer
@@ -342,13 +265,4 @@ step_exact s h n HorizonNotLater p =
     rw (p.0, is_false (ltb n 48) (ltb_says n 48) (λ q. omega (arith, p.1)), is_false (ltb clock h) (ltb_says clock h) (λ q. omega (arith, p.2)), is_true (leb (h * s.scale) s.now) (leb_says (h * s.scale) s.now) p.3)
 step_exact s h n Done p =
     rw (p.0, is_false (ltb n 48) (ltb_says n 48) (λ q. omega (arith, p.1)), is_false (ltb clock h) (ltb_says clock h) (λ q. omega (arith, p.2)), is_false (leb (h * s.scale) s.now) (leb_says (h * s.scale) s.now) (λ q. omega (arith, p.3)))
-step_exact s h n Processors p = absurd p
-step_exact s h n TableLength p = absurd p
-step_exact s h n RowRange p = absurd p
-step_exact s h n RowExecution p = absurd p
-step_exact s h n Scale p = absurd p
-step_exact s h n Shares p = absurd p
-step_exact s h n TaskNumber p = absurd p
-step_exact s h n BetweenTicks p = absurd p
-step_exact s h n TooSoon p = absurd p
-step_exact s h n TextForm p = absurd p
+step_exact s h n other p = absurd p

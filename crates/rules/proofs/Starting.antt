@@ -5,8 +5,7 @@ use Prim.Native.Nat.{ℕ, zero, suc, ◌+◌, ◌*◌, ◌/◌, ◌≤◌, ◌<�
 use native.Mathlib.Omega.{arith, none}
 use lib.ListN.{length, get_or, length-map}
 use Rattle.rules.specs.Bounds.{most_scale}
-use Rattle.rules.specs.declared.Answer.{Answer}
-use Rattle.rules.specs.declared.Answer.TheVariants.{Done}
+use Rattle.rules.specs.Answers.{Answer, Done}
 use Rattle.ground.specs.Sums.{sum_of, up_from}
 use Rattle.ground.proofs.Sums.{sum_of_map}
 use Rattle.ground.proofs.Times.{up_length}

@@ -1,9 +1,7 @@
 -- ADMIT: "table bytes and m give a state at instant 0"
 use Rattle.std.specs.Prelude.{Bool, true, false, not, ◌&&◌, List, [], ◌∷◌, ℕ, suc, ◌*◌, ◌%◌, leb, ltb, eqb, length, if◌then◌else◌}
 use Rattle.rules.specs.Bounds.{most_processors, most_scale, most_tasks, row_size}
-use Rattle.rules.specs.declared.Answer.{Answer}
-use Rattle.rules.specs.declared.Answer.TheVariants.{Done, Processors, TableLength, RowRange, RowExecution, Scale, Shares}
-use Rattle.rules.specs.Answers.{is_done}
+use Rattle.rules.specs.Answers.{Answer, Done, Processors, TableLength, RowRange, RowExecution, Scale, Shares, is_done}
 use Rattle.rules.specs.Table.{Row, rows_of, shorter, row_in_range}
 use Rattle.rules.specs.Scale.{scale_of, fits}
 use Rattle.rules.specs.State.{State, blank, admitted}

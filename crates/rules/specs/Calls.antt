@@ -2,9 +2,7 @@
 use Rattle.std.specs.Prelude.{Bool, true, false, not, ◌&&◌, List, ◌++◌, ℕ, zero, suc, ◌+◌, ◌*◌, ◌-◌, leb, ltb, eqb, length, set, drop, if◌then◌else◌}
 use Rattle.std.proofs.Math.Option.{Option, none, some, get_or}
 use Rattle.rules.specs.Bounds.{clock, record_size}
-use Rattle.rules.specs.declared.Answer.{Answer}
-use Rattle.rules.specs.declared.Answer.TheVariants.{Done, TaskNumber, BetweenTicks, TooSoon, HorizonPastClock, HorizonNotLater, RoomTooShort, NotTogether}
-use Rattle.rules.specs.Answers.{is_done}
+use Rattle.rules.specs.Answers.{Answer, Done, TaskNumber, BetweenTicks, TooSoon, HorizonPastClock, HorizonNotLater, RoomTooShort, NotTogether, is_done}
 use Rattle.rules.specs.State.{Cond, resting, running, waiting, Task, State, at, period, tick_of, on_tick}
 use Rattle.rules.specs.Holds.{holds}
 use Rattle.rules.specs.Planes.{opened, closed}

@@ -1,8 +1,7 @@
 -- DEMAND 3, said of a table and of all that was called and handed out
 use Rattle.std.specs.Prelude.{◌≡◌, true, List, ◌∷◌, ◌++◌, ◌≢◌, ◌↔◌, ℕ, suc, ◌+◌, ◌*◌, ◌-◌, ◌≤◌, ◌<◌, length, get_or}
 use Rattle.std.proofs.Math.Option.{some}
-use Rattle.rules.specs.declared.Answer.{Answer}
-use Rattle.rules.specs.declared.Answer.TheVariants.{Done}
+use Rattle.rules.specs.Answers.{Answer, Done}
 use Rattle.rules.specs.Bounds.{clock, record_size}
 use Rattle.rules.specs.Table.{Row, rows_of, shorter}
 use Rattle.rules.specs.Scale.{scale_of}

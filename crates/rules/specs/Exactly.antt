@@ -1,7 +1,7 @@
 -- EXACTLY: what the refusals and the scale come to
 use Rattle.std.specs.Prelude.{◌≡◌, ◌↔◌, List, ℕ, ◌*◌, ◌≤◌, ◌<◌, length, get_or}
 use Rattle.std.specs.Int.{◌∣◌}
-use Rattle.rules.specs.declared.Answer.{Answer}
+use Rattle.rules.specs.Answers.{Answer}
 use Rattle.rules.specs.Table.{Row, shorter}
 use Rattle.rules.specs.Scale.{scale_of, share_of}
 use Rattle.rules.specs.Admission.{admit}

@@ -3,8 +3,7 @@ use Rattle.std.specs.Prelude.{◌≡◌, true, false, List, ℕ, ◌+◌, ◌*�
 use Rattle.std.proofs.Math.Option.{some}
 use Rattle.ground.specs.Sums.{sum_of}
 use Rattle.rules.specs.Bounds.{clock, most_processors, most_scale, most_tasks, most_ticks, record_size, row_size}
-use Rattle.rules.specs.declared.Answer.{Answer}
-use Rattle.rules.specs.declared.Answer.TheVariants.{Done, Processors, TableLength, RowRange, RowExecution, Scale, Shares, TaskNumber, BetweenTicks, TooSoon, HorizonPastClock, HorizonNotLater, RoomTooShort, NotTogether, TextForm}
+use Rattle.rules.specs.Answers.{Answer, Done, Processors, TableLength, RowRange, RowExecution, Scale, Shares, TaskNumber, BetweenTicks, TooSoon, HorizonPastClock, HorizonNotLater, RoomTooShort, NotTogether}
 use Rattle.rules.specs.Table.{Row, rows_of, shorter}
 use Rattle.rules.specs.Scale.{scale_of, share_of}
 use Rattle.rules.specs.State.{Task, State, no_row, at, period, tick_of}
@@ -49,14 +48,7 @@ AdmitReason bytes m Shares i =
 AdmitReason bytes m Done i =
     (i ≡ 0) × ProcessorsOk m × LengthOk (length bytes) × RowsOk (rows_of bytes) × (scale_of (rows_of bytes) ≤ most_scale)
     × (sum_of (share_of (scale_of (rows_of bytes))) (rows_of bytes) ≤ m * scale_of (rows_of bytes))
-AdmitReason bytes m TaskNumber i = ⊥
-AdmitReason bytes m BetweenTicks i = ⊥
-AdmitReason bytes m TooSoon i = ⊥
-AdmitReason bytes m HorizonPastClock i = ⊥
-AdmitReason bytes m HorizonNotLater i = ⊥
-AdmitReason bytes m RoomTooShort i = ⊥
-AdmitReason bytes m NotTogether i = ⊥
-AdmitReason bytes m TextForm i = ⊥
+AdmitReason bytes m other i = ⊥
 
 -- ARRIVE
 abbrev pub TaskKnown : State → ℕ → Type 0
@@ -75,16 +67,7 @@ ArriveReason s task TaskNumber = (holds s ≡ true) × ¬ TaskKnown s task
 ArriveReason s task BetweenTicks = (holds s ≡ true) × TaskKnown s task × ¬ OnTick s
 ArriveReason s task TooSoon = (holds s ≡ true) × TaskKnown s task × OnTick s × Soon s (at (task - 1) s.tasks)
 ArriveReason s task Done = (holds s ≡ true) × TaskKnown s task × OnTick s × ¬ Soon s (at (task - 1) s.tasks)
-ArriveReason s task Processors = ⊥
-ArriveReason s task TableLength = ⊥
-ArriveReason s task RowRange = ⊥
-ArriveReason s task RowExecution = ⊥
-ArriveReason s task Scale = ⊥
-ArriveReason s task Shares = ⊥
-ArriveReason s task HorizonPastClock = ⊥
-ArriveReason s task HorizonNotLater = ⊥
-ArriveReason s task RoomTooShort = ⊥
-ArriveReason s task TextForm = ⊥
+ArriveReason s task other = ⊥
 
 -- what an answer of 0 says of an arrival of the task in place i
 pub record Comes (s : State) (i : ℕ) : Type 0 where
@@ -99,13 +82,4 @@ StepReason s horizon room RoomTooShort = (holds s ≡ true) × (room < record_si
 StepReason s horizon room HorizonPastClock = (holds s ≡ true) × (record_size ≤ room) × (clock < horizon)
 StepReason s horizon room HorizonNotLater = (holds s ≡ true) × (record_size ≤ room) × (horizon ≤ clock) × (horizon * s.scale ≤ s.now)
 StepReason s horizon room Done = (holds s ≡ true) × (record_size ≤ room) × (horizon ≤ clock) × (s.now < horizon * s.scale)
-StepReason s horizon room Processors = ⊥
-StepReason s horizon room TableLength = ⊥
-StepReason s horizon room RowRange = ⊥
-StepReason s horizon room RowExecution = ⊥
-StepReason s horizon room Scale = ⊥
-StepReason s horizon room Shares = ⊥
-StepReason s horizon room TaskNumber = ⊥
-StepReason s horizon room BetweenTicks = ⊥
-StepReason s horizon room TooSoon = ⊥
-StepReason s horizon room TextForm = ⊥
+StepReason s horizon room other = ⊥

@@ -2,7 +2,7 @@
 #![tactic(auto)]
 
 ghost use Rattle.std.specs.Prelude.{◌≡◌};
-ghost use Rattle.rules.specs.Answers.{number_of};
+ghost use Rattle.rules.specs.Answers.{number_of, refusal_number};
 
 // THE BOUNDS, as `Bounds` has them: where one is used, the proof needs that the two are equal.
 pub const MOST_PROCESSORS: usize = 16;
@@ -21,44 +21,39 @@ pub const MOST_BYTES: usize = MOST_TASKS * ROW_SIZE;
 
 pub const RECORD_SIZE: usize = 48;
 
-#[derive(Clone, Copy)]
-pub enum Answer {
-    Done,
-    Processors,
-    TableLength,
-    RowRange,
-    RowExecution,
-    Scale,
-    Shares,
-    TaskNumber,
-    BetweenTicks,
-    TooSoon,
-    HorizonPastClock,
-    HorizonNotLater,
-    RoomTooShort,
-    NotTogether,
-    TextForm,
+// Why a call or the program refuses; the number is the one of document 01.
+#[derive(Clone, Copy, Debug, PartialEq, Eq)]
+pub enum Refusal {
+    Processors = 1,
+    TableLength = 2,
+    RowRange = 3,
+    RowExecution = 4,
+    Scale = 5,
+    Shares = 6,
+    TaskNumber = 7,
+    BetweenTicks = 8,
+    TooSoon = 9,
+    HorizonPastClock = 10,
+    HorizonNotLater = 11,
+    RoomTooShort = 12,
+    NotTogether = 13,
+    TextForm = 14,
 }
 
-// The number that document 01 gives to an answer.
-pub fn number(a: Answer) -> u32
-    ensures is { result ≡ number_of a }
+impl From<Refusal> for u32 {
+    ghost from_gives = { λ refusal n. n ≡ refusal_number refusal };
+
+    fn from(refusal: Refusal) -> u32 {
+        refusal as u32
+    }
+}
+
+// The number of an answer: 0, or that of its refusal.
+pub fn number(answer: Result<(), Refusal>) -> u32
+    ensures is { result ≡ number_of answer }
 {
-    match a {
-        Answer::Done => 0,
-        Answer::Processors => 1,
-        Answer::TableLength => 2,
-        Answer::RowRange => 3,
-        Answer::RowExecution => 4,
-        Answer::Scale => 5,
-        Answer::Shares => 6,
-        Answer::TaskNumber => 7,
-        Answer::BetweenTicks => 8,
-        Answer::TooSoon => 9,
-        Answer::HorizonPastClock => 10,
-        Answer::HorizonNotLater => 11,
-        Answer::RoomTooShort => 12,
-        Answer::NotTogether => 13,
-        Answer::TextForm => 14,
+    match answer {
+        Ok(()) => 0,
+        Err(refusal) => u32::from(refusal),
     }
 }

@@ -3,3 +3,4 @@ pub mod Machine
 pub mod View
 pub mod Sound
 pub mod Fit
+pub mod Lent

@@ -1,5 +1,5 @@
 pub mod Bytes
-pub mod Columns
+pub mod Columning
 pub mod Faults
 pub mod Scales
 pub mod Order

@@ -2,22 +2,18 @@
 use mathlib.Core.Path.{◌≡◌, refl, sym, ◌∙◌, ap}
 use mathlib.Core.List.{List, ◌++◌, map, map-map}
 use Prim.Native.Nat.{ℕ, zero, suc, ◌+◌, ◌-◌, ◌≤◌, ◌<◌}
-use native.Mathlib.Nat.{suc-sub-suc, zero-sub, sub-zero, min-le_left}
+use native.Mathlib.Nat.{min-le_left}
 use native.Mathlib.Omega.{arith}
 use lib.ListN.{length, get_or, take, drop, replicate, length-append, length-replicate, length-take, get_or-append}
 use lib.Seq.{sets, sets-eq, take_at, ext_get_or, length-take-le, get_or-take, get_or-append-add}
 use Rattle.ground.proofs.Ranges.{length_up, at_up}
 use Rattle.ground.specs.Sums.{up_from}
+use Rattle.std.proofs.lemmas.List.{drop-replicate}
 use Rattle.table.specs.Rows.{padded, Filled}
-
-drop_replicate : (n k a : ℕ) → drop k (replicate n a) ≡ replicate (n - k) a
-drop_replicate n zero a = ap (λ (m : ℕ). replicate m a) (sym (sub-zero n))
-drop_replicate zero (suc k) a = ap (λ (m : ℕ). replicate m a) (sym (zero-sub (suc k)))
-drop_replicate (suc n) (suc k) a = drop_replicate n k a ∙ ap (λ (m : ℕ). replicate m a) (sym (suc-sub-suc n k))
 
 -- a column in front of what is left of the zeros
 pub padded_front : (v : List ℕ) (n : ℕ) → length v ≡ n → v ++ drop n (replicate 128 0) ≡ padded v
-padded_front v n e = ap (λ (w : List ℕ). v ++ w) (drop_replicate 128 n 0 ∙ ap (λ (k : ℕ). replicate (128 - k) 0) (sym e))
+padded_front v n e = ap (λ (w : List ℕ). v ++ w) (drop-replicate n 128 0 ∙ ap (λ (k : ℕ). replicate (128 - k) 0) (sym e))
 
 -- a column stored into zeros
 pub padded_store : (v : List ℕ) → length v ≤ 128 → sets (replicate 128 0) 0 v ≡ padded v

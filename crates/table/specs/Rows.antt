@@ -1,11 +1,13 @@
 -- A TABLE IN COLUMNS: the rows that three lists hold, and what the code reads off them
-use Rattle.std.specs.Prelude.{◌≡◌, true, List, map, ◌++◌, ℕ, ◌+◌, ◌*◌, ◌-◌, ◌≤◌, ◌<◌, min, ltb, length, get_or, take, replicate, if◌then◌else◌}
+use Rattle.std.specs.Prelude.{◌≡◌, true, List, map, ◌++◌, ℕ, ◌+◌, ◌*◌, ◌-◌, ◌≤◌, ◌<◌, min, ltb, length, get_or, take, replicate, if◌then◌else◌, Option, Some, None, Result, Ok, Err, ⊤}
 use Rattle.ground.specs.Sums.{sum_of, up_from}
-use Rattle.rules.specs.Answers.{is_done}
+use Rattle.rules.specs.Answers.{Done, is_done}
 use Rattle.rules.specs.Table.{Row, word_at}
 use Rattle.rules.specs.Scale.{scale_of}
-use Rattle.rules.specs.Admission.{Verdict, fault_from}
-use Rattle.table.specs.declared.Finding.{Finding}
+use Rattle.rules.specs.Admission.{Verdict, plain, fault_from}
+use Rattle.table.specs.declared.Fault.{Fault}
+use Rattle.table.specs.declared.Rows.{Rows}
+use Rattle.table.specs.declared.Row as Declared
 use Rattle.rules.specs.Bounds.{most_scale, most_ticks}
 
 -- period, execution and deadline, as a row
@@ -20,6 +22,17 @@ row_in ps es ds i = row_of (get_or ps i 0) (get_or es i 0) (get_or ds i 0)
 abbrev pub rows_held : List ℕ → List ℕ → List ℕ → ℕ → List Row
 rows_held ps es ds n = map (row_in ps es ds) (up_from 0 n)
 
+-- a row of the code, as the rules see it
+abbrev pub as_row : Declared.Row → Row
+as_row r = row_of r.period r.exec r.deadline
+
+-- the row in place i, and the rows, of lent columns
+abbrev pub row_on : Rows → ℕ → Declared.Row
+row_on r i = record { period = get_or r.period.now i 0; exec = get_or r.exec.now i 0; deadline = get_or r.deadline.now i 0 }
+
+abbrev pub rows_on : Rows → List Row
+rows_on r = rows_held r.period.now r.exec.now r.deadline.now r.count
+
 -- the column of the table's bytes that starts at a byte of each row: 0 the periods, 4 the executions, 8 the deadlines
 abbrev pub column_of : ℕ → List ℕ → ℕ → List ℕ
 column_of from bytes n = map (λ i. word_at (12 * i + from) bytes) (up_from 0 n)
@@ -28,9 +41,10 @@ column_of from bytes n = map (λ i. word_at (12 * i + from) bytes) (up_from 0 n)
 abbrev pub padded : List ℕ → List ℕ
 padded l = l ++ replicate (128 - length l) 0
 
--- a verdict of the rules, as the code hands it back
-abbrev pub finding_of : Verdict → Finding
-finding_of v = record { answer = v.answer; row = v.row }
+-- what the code hands back, as a verdict of the rules
+abbrev pub verdict_in : Result ⊤ Fault → Verdict
+verdict_in (Ok u) = plain Done
+verdict_in (Err f) = record { answer = Err f.refusal; row = f.row }
 
 -- every q of the first n places is in range
 abbrev pub ShortInRange : List ℕ → List ℕ → ℕ → Type 0
@@ -48,9 +62,9 @@ Filled l n = l ≡ padded (take n l)
 abbrev pub Faultless : List Row → Type 0
 Faultless rows = is_done (fault_from 1 rows).answer ≡ true
 
--- the scale, or 0 where it is above 134,217,728
-unfoldable pub bounded_scale : List Row → ℕ
-bounded_scale rows = if ltb most_scale (scale_of rows) then 0 else scale_of rows
+-- the scale, or none where it is above 134,217,728
+unfoldable pub bounded_scale : List Row → Option ℕ
+bounded_scale rows = if ltb most_scale (scale_of rows) then None else Some (scale_of rows)
 
 -- the sum of the first n shares
 abbrev pub share_sum_of : List ℕ → ℕ → ℕ

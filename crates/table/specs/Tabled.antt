@@ -1,7 +1,6 @@
 -- THE TABLE THAT ADMISSION HANDS ON: the rules' verdict, and the table where it is Done
 use Rattle.std.specs.Prelude.{List, map, ℕ, length, replicate, if◌then◌else◌}
-use Rattle.rules.specs.declared.Answer.{Answer}
-use Rattle.rules.specs.Answers.{is_done}
+use Rattle.rules.specs.Answers.{Answer, is_done}
 use Rattle.rules.specs.Table.{Row, rows_of}
 use Rattle.rules.specs.Scale.{scale_of, share_of}
 use Rattle.rules.specs.Planes.{falling}

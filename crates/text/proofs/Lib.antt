@@ -2,6 +2,7 @@ pub mod Texts
 pub mod Splitting
 pub mod Numerals
 pub mod Items
+pub mod Cuts
 pub mod Forms
 pub mod Walks
 pub mod Puts

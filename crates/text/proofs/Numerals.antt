@@ -1,108 +1,107 @@
--- Laws of words and of numbers that are read
-use Prim.Native.Nat.{ℕ, suc, ◌+◌, ◌*◌, ◌-◌, ◌≤◌, ◌<◌}
-use mathlib.Core.Path.{◌≡◌, refl, ap}
-use mathlib.Core.Bool.{Bool, true, false, not, ◌&&◌}
+-- Laws of numbers that are read
+use Rattle.std.specs.Prelude.{Some, None, Result, Ok, Err, OkIff, MatchResult, nat_eq}
+use Rattle.std.specs.List.{starts_with}
+use Rattle.std.specs.Result.{result_ok}
+use Rattle.std.specs.Str.{IsUtf8}
+use Rattle.std.specs.Str.Parse.{ParsesUnsigned}
+use Rattle.std.proofs.Common.{rules, tests}
+use Rattle.std.proofs.lemmas.Option.{same_Some}
+use Rattle.std.proofs.lemmas.Fmt.{IsAscii-from_digits}
+use Rattle.std.proofs.lemmas.Str.{IsUtf8-from_ascii}
+use Rattle.std.proofs.lemmas.Str.Parse.{IsDigitsTest, FoldsDigits, IsNumeralModel, numerals_by_fold, parse_plain}
+use Prim.Native.Nat.{ℕ, ◌^◌, ◌≤◌, ◌<◌}
+use mathlib.Core.Path.{◌≡◌, refl, sym, ap, subst}
+use denote.Ref.{Bor}
+use mathlib.Core.Bool.{Bool, true, false, ◌&&◌}
 use mathlib.Core.List.{List, [], ◌∷◌}
-use native.Mathlib.Numerals.{add-one}
 use native.Mathlib.Omega.{arith}
-use borrow.Author.Tests.{eq-eqb, ne_eqb, le-leb, lt-leb}
-use lib.Dec.{eqb, leb}
-use lib.ListN.{length, get_or, drop, drop_of_length-le}
-use lib.Seq.{drop-cons}
-use Rattle.ground.specs.Tests.{every}
-use Rattle.ground.proofs.Tests.{of_true, and_says, leb_says}
-use Rattle.text.specs.declared.Numeral.TheVariants.{Value, Nothing}
-use Rattle.text.specs.Parts.{same}
+use borrow.Author.Tests.{le-leb}
+use lib.Dec.{leb}
+use lib.ListN.{length, get_or}
+use Rattle.ground.specs.Tests.{every, Says}
+use Rattle.ground.proofs.Tests.{leb_says}
 use Rattle.text.specs.Numbers.{most_number, is_digit, plain, spelled_after, spelled, numeral_of}
-
--- words of two lengths differ
-pub same_length : (a b : List ℕ) → (length a ≡ length b → ⊥) → same a b ≡ false
-unfolding same
-same_length [] [] h = absurd (h refl)
-same_length [] (y ∷ b) h = refl
-same_length (x ∷ a) [] h = refl
-same_length (x ∷ a) (y ∷ b) h = go (eqb x y) (same_length a b (λ e. h (ap suc e)))
-  where
-    go : (t : Bool) → same a b ≡ false → (t && same a b) ≡ false
-    go true e = e
-    go false e = refl
-
-module _ (a b : List ℕ) (i : ℕ) (ha : i < length a) (hb : i < length b) where
-  -- the same byte here: look further
-  pub same_on : get_or a i 0 ≡ get_or b i 0 → same (drop i a) (drop i b) ≡ same (drop (i + 1) a) (drop (i + 1) b)
-  unfolding same
-  same_on e = rw (drop-cons a i 0 ha, drop-cons b i 0 hb, eq-eqb (get_or a i 0) (get_or b i 0) e, add-one)
-
-  -- two bytes here
-  pub same_stop : (get_or a i 0 ≡ get_or b i 0 → ⊥) → same (drop i a) (drop i b) ≡ false
-  unfolding same
-  same_stop e = rw (drop-cons a i 0 ha, drop-cons b i 0 hb, ne_eqb (get_or a i 0) (get_or b i 0) e)
-
-pub same_end : (a b : List ℕ) (i : ℕ) → length a ≤ i → length b ≤ i → same (drop i a) (drop i b) ≡ true
-unfolding same
-same_end a b i ha hb = rw (drop_of_length-le a ha, drop_of_length-le b hb)
-
-module _ (f : ℕ → Bool) (l : List ℕ) (i : ℕ) where
-  pub every_on : i < length l → f (get_or l i 0) ≡ true → every f (drop i l) ≡ every f (drop (i + 1) l)
-  unfolding every
-  every_on h e = rw (drop-cons l i 0 h, e, add-one)
-
-  pub every_stop : i < length l → f (get_or l i 0) ≡ false → every f (drop i l) ≡ false
-  unfolding every
-  every_stop h e = rw (drop-cons l i 0 h, e)
-
-  pub every_end : length l ≤ i → every f (drop i l) ≡ true
-  unfolding every
-  every_end h = rw (drop_of_length-le l h)
-
-module _ (v : ℕ) (l : List ℕ) (i : ℕ) where
-  pub spelled_on : i < length l → spelled_after v (drop i l) ≡ spelled_after (10 * v + (get_or l i 0 - 48)) (drop (i + 1) l)
-  unfolding spelled_after
-  spelled_on h = rw (drop-cons l i 0 h, add-one)
-
-  pub spelled_end : length l ≤ i → spelled_after v (drop i l) ≡ v
-  unfolding spelled_after
-  spelled_end h = rw (drop_of_length-le l h)
-
-pub spelled_more : (v : ℕ) (l : List ℕ) → v ≤ spelled_after v l
-unfolding spelled_after
-spelled_more v [] = omega arith
-spelled_more v (b ∷ l) = omega (arith, spelled_more (10 * v + (b - 48)) l)
 
 pub and_false : (t : Bool) → (t && false) ≡ false
 and_false true = refl
 and_false false = refl
 
-pub not_plain : (p : List ℕ) → plain p ≡ false → numeral_of p ≡ Nothing
-unfolding numeral_of
-not_plain p e = rw e
-
-pub not_digits : (p : List ℕ) → every is_digit p ≡ false → numeral_of p ≡ Nothing
+not_digits : (p : List ℕ) → every is_digit p ≡ false → numeral_of p ≡ None
 unfolding numeral_of
 not_digits p e = rw (e, and_false (plain p))
 
-pub too_large : (p : List ℕ) → most_number < spelled p → numeral_of p ≡ Nothing
+too_large : (p : List ℕ) → leb (spelled p) most_number ≡ false → numeral_of p ≡ None
 unfolding numeral_of
-too_large p h = rw (lt-leb (spelled p) most_number h, and_false (every is_digit p), and_false (plain p))
+too_large p e = rw (e, and_false (every is_digit p), and_false (plain p))
 
-pub a_number : (p : List ℕ) (v : ℕ) → plain p ≡ true → every is_digit p ≡ true → spelled p ≡ v → v ≤ most_number → numeral_of p ≡ Value v
+pub a_number : (p : List ℕ) (v : ℕ) → plain p ≡ true → every is_digit p ≡ true → spelled p ≡ v → v ≤ most_number → numeral_of p ≡ Some v
 unfolding numeral_of
 a_number p v e d s h = rw (e, d, s, le-leb v most_number h)
 
--- what `plain` says, by the length
-pub plain_none : (p : List ℕ) → length p ≡ 0 → plain p ≡ false
-plain_none [] h = refl
-plain_none (b ∷ p) h = absurd (omega arith)
+-- our words for digits and their number are the library's
+abbrev Digits : List ℕ → Type 0
+Digits p = every is_digit p ≡ true
 
-pub plain_one : (p : List ℕ) → length p ≡ 1 → plain p ≡ true
-plain_one [] h = absurd (omega arith)
-plain_one (b ∷ []) h = refl
-plain_one (b ∷ d ∷ p) h = absurd (omega arith)
+tells : IsDigitsTest Digits
+unfolding every
+tells = search rules
 
-pub plain_more : (p : List ℕ) → (length p ≡ 0 → ⊥) → (length p ≡ 1 → ⊥) → not (eqb (get_or p 0 0) 48) ≡ plain p
-plain_more [] h k = absurd (h refl)
-plain_more (b ∷ []) h k = absurd (k refl)
-plain_more (b ∷ d ∷ p) h k = refl
+folds : FoldsDigits spelled_after
+unfolding spelled_after
+folds = search rules
 
-pub digit_from : (b : ℕ) → is_digit b ≡ true → (48 ≤ b) × (b ≤ 57)
-digit_from b e = of_true (is_digit b) (and_says (48 ≤ b) (b ≤ 57) (leb 48 b) (leb b 57) (leb_says 48 b) (leb_says b 57)) e
+own : IsNumeralModel Digits spelled
+own = numerals_by_fold Digits tells spelled_after folds
+
+-- what has no number: another encoding, a sign in front, a zero in front of others
+not_text : (p : List ℕ) → ¬ (IsUtf8 p) → numeral_of p ≡ None
+not_text p h = go (every is_digit p) refl
+  where
+    go : (t : Bool) → every is_digit p ≡ t → numeral_of p ≡ None
+    go true e = absurd (h (IsUtf8-from_ascii p (IsAscii-from_digits p (own.to p e))))
+    go false e = not_digits p e
+
+-- what `from_utf8` and its `ok` answer
+pub text_none : {S E : Type 0} (P : S → Type 0) (Q : E → Type 0) (p : List ℕ) (r : Result S E) → MatchResult r P (λ e. ¬ (IsUtf8 p) × Q e) → result_ok r ≡ None → numeral_of p ≡ None
+text_none P Q p (Ok s) m e = absurd (cc)
+text_none P Q p (Err x) m e = not_text p m.0
+
+pub text_some : {E : Type 0} (Q : E → Type 0) (p : List ℕ) (s : Bor (List ℕ)) (r : Result (Bor (List ℕ)) E) → MatchResult r (λ s. (s.now ≡ p) × IsUtf8 p) Q → result_ok r ≡ Some s → s.now ≡ p
+text_some Q p s (Ok t) m e = subst (λ (x : Bor (List ℕ)). x.now ≡ p) (same_Some t s e) m.0
+text_some Q p s (Err x) m e = absurd (cc)
+
+pub not_plain : (p : List ℕ) → plain p ≡ false → numeral_of p ≡ None
+unfolding numeral_of
+not_plain p e = rw e
+
+pub plus_front : (p : List ℕ) → starts_with nat_eq p (43 ∷ []) ≡ true → numeral_of p ≡ None
+unfolding every
+plus_front [] h = not_plain [] refl
+plus_front (b ∷ p) h = let e : b ≡ 43 = search (rules, tests) in not_digits (b ∷ p) (ap (λ (x : ℕ). is_digit x && every is_digit p) e)
+
+no_plus : (p : List ℕ) → 0 < length p → starts_with nat_eq p (43 ∷ []) ≡ false → get_or p 0 0 ≡ 43 → ⊥
+no_plus [] n h e = absurd (omega arith)
+no_plus (b ∷ p) n h e = search (rules, tests)
+
+plain_some : (p : List ℕ) → plain p ≡ true → 0 < length p
+plain_some [] e = absurd (search rules)
+plain_some (b ∷ p) e = omega arith
+
+refused : (q : List ℕ) (t : Bool) → every is_digit q ≡ true → leb (spelled q) most_number ≡ t → Says (spelled q ≤ most_number) t
+    → ¬ (Digits q × (0 < length q) × (spelled q < 2 ^ 32)) → numeral_of q ≡ None
+unfolding numeral_of
+refused [] t e f s n = refl
+refused (b ∷ l) true e f s n = absurd (n (e, omega arith, omega arith))
+refused (b ∷ l) false e f s n = too_large (b ∷ l) f
+
+-- what `parse` answers otherwise
+pub parsed : {E : Type 0} (p : List ℕ) (r : Result ℕ E) → starts_with nat_eq p (43 ∷ []) ≡ false → plain p ≡ true → ParsesUnsigned 32 10 p r → numeral_of p ≡ result_ok r
+parsed {E} p r h k u = by_result r (parse_plain own 32 p r u (no_plus p (plain_some p k) h))
+  where
+    no_digits : (t : Bool) → every is_digit p ≡ t → ¬ (Digits p × (0 < length p) × (spelled p < 2 ^ 32)) → numeral_of p ≡ None
+    no_digits true e n = refused p (leb (spelled p) most_number) e refl (leb_says (spelled p) most_number) n
+    no_digits false e n = not_digits p e
+
+    by_result : (r : Result ℕ E) → OkIff r (Digits p × (0 < length p) × (spelled p < 2 ^ 32)) (spelled p) → numeral_of p ≡ result_ok r
+    by_result (Ok x) o = a_number p x k o.0.0 (sym o.1) (omega arith)
+    by_result (Err e) o = no_digits (every is_digit p) refl o

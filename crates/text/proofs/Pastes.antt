@@ -1,4 +1,5 @@
 -- The table's bytes, put row by row
+use Rattle.std.specs.Prelude.{Option, Some}
 use Prim.Native.Nat.{ℕ, zero, suc, ◌+◌, ◌-◌, ◌*◌, ◌≤◌, ◌<◌}
 use mathlib.Core.Path.{◌≡◌, refl, sym, ap, subst, ◌∙◌}
 use mathlib.Core.List.{List, [], ◌∷◌, ◌++◌, append_assoc, append-nil}
@@ -10,6 +11,7 @@ use Rattle.ground.proofs.Bytes.{paste_none, length_pasted, paste_then}
 use Rattle.rules.specs.Table.{Row, row_bytes, table_bytes}
 use Rattle.rules.proofs.Reading.{length_table}
 use Rattle.text.specs.declared.Item.{Item}
+use Rattle.text.specs.declared.Item.TheVariants.{Processors, Task, Arrive, Until}
 use Rattle.text.specs.Meaning.{row_by}
 use Rattle.text.specs.Puts.{RowsPut}
 
@@ -65,5 +67,12 @@ rows_turn l l' k n a b h m p =
     )
 
 -- the same line under another name
-pub rows_as : (l l' : List ℕ) (k n : ℕ) (x y : Item) → x ≡ y → RowsPut l k (row_by y) l' n → RowsPut l k (row_by x) l' n
-rows_as l l' k n x y e p = subst (λ (z : Item). RowsPut l k (row_by z) l' n) (sym e) p
+pub rows_as : (l l' : List ℕ) (k n : ℕ) (x y : Option Item) → x ≡ y → RowsPut l k (row_by y) l' n → RowsPut l k (row_by x) l' n
+rows_as l l' k n x y e p = subst (λ (z : Option Item). RowsPut l k (row_by z) l' n) (sym e) p
+
+-- a line that is no task line gives no row
+pub no_row : (x : Item) → ((p e d : ℕ) → x ≡ Task p e d → ⊥) → row_by (Some x) ≡ []
+no_row (Processors m) h = refl
+no_row (Task p e d) h = absurd (h p e d refl)
+no_row (Arrive t i) h = refl
+no_row (Until t) h = refl

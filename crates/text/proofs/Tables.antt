@@ -1,21 +1,19 @@
 -- The table's bytes read back as the rows of the text
-use Rattle.std.specs.Prelude.{if◌then◌else◌}
+use Rattle.std.specs.Prelude.{if◌then◌else◌, Option, Some, None}
 use Prim.Native.Nat.{ℕ, zero, suc, ◌*◌, ◌-◌, ◌≤◌, ◌<◌}
 use mathlib.Core.Path.{◌≡◌, refl, ◌∙◌}
 use mathlib.Core.Bool.{Bool, true, false, ◌&&◌}
 use mathlib.Core.List.{List, [], ◌∷◌, ◌++◌, map}
-use native.Mathlib.Omega.{arith}
 use lib.Dec.{leb, ltb}
+use native.Mathlib.Omega.{arith}
 use lib.ListN.{length, take, drop, length-take}
 use lib.Seq.{take_all}
 use Rattle.ground.specs.Tests.{every}
 use Rattle.ground.proofs.Tests.{leb_says, of_true}
 use Rattle.rules.specs.Table.{Row, rows_of}
 use Rattle.rules.proofs.Reading.{RowsFit, length_table, table_rows}
-use Rattle.text.specs.declared.Numeral.{Numeral}
-use Rattle.text.specs.declared.Numeral.TheVariants.{Value, Nothing}
 use Rattle.text.specs.declared.Item.{Item}
-use Rattle.text.specs.declared.Item.TheVariants.{Processors, Task, Arrive, Until, Other}
+use Rattle.text.specs.declared.Item.TheVariants.{Processors, Task, Arrive, Until}
 use Rattle.text.specs.Parts.{same, lines_of, parts_of}
 use Rattle.text.specs.Numbers.{most_number, is_digit, plain, spelled, numeral_of}
 use Rattle.text.specs.Lines.{processors_word, task_word, arrive_word, until_word, with_one, with_two, with_three, of_parts, item_of}
@@ -23,55 +21,55 @@ use Rattle.text.specs.Meaning.{items_of, end_at, line_at, row_by, rows_in, table
 use Rattle.text.proofs.Walks.{whole_line, no_line}
 
 -- each number of a text fits 32 bits
-abbrev NumeralFits : Numeral → Type 0
-NumeralFits (Value x) = x ≤ most_number
-NumeralFits Nothing = Unit {0}
+abbrev NumeralFits : Option ℕ → Type 0
+NumeralFits (Some x) = x ≤ most_number
+NumeralFits None = Unit {0}
 
 numeral_fits : (p : List ℕ) → NumeralFits (numeral_of p)
 unfolding numeral_of
 numeral_fits p = go (plain p) (every is_digit p) (leb (spelled p) most_number) (λ e. of_true (leb (spelled p) most_number) (leb_says (spelled p) most_number) e)
   where
-    go : (a b c : Bool) → (c ≡ true → spelled p ≤ most_number) → NumeralFits (if a && (b && c) then Value (spelled p) else Nothing)
+    go : (a b c : Bool) → (c ≡ true → spelled p ≤ most_number) → NumeralFits (if a && (b && c) then Some (spelled p) else None)
     go true true true f = f refl
     go true true false f = tt
     go true false c f = tt
     go false b c f = tt
 
 -- and so does each number of a line
-abbrev pub ItemFits : Item → Type 0
-ItemFits (Processors m) = m ≤ most_number
-ItemFits (Task p e d) = (p ≤ most_number) × (e ≤ most_number) × (d ≤ most_number)
-ItemFits (Arrive t i) = (t ≤ most_number) × (i ≤ most_number)
-ItemFits (Until t) = t ≤ most_number
-ItemFits Other = Unit {0}
+abbrev pub ItemFits : Option Item → Type 0
+ItemFits (Some (Processors m)) = m ≤ most_number
+ItemFits (Some (Task p e d)) = (p ≤ most_number) × (e ≤ most_number) × (d ≤ most_number)
+ItemFits (Some (Arrive t i)) = (t ≤ most_number) × (i ≤ most_number)
+ItemFits (Some (Until t)) = t ≤ most_number
+ItemFits None = Unit {0}
 
-two_fit : (w : List ℕ) (a b : Numeral) → NumeralFits a → NumeralFits b → ItemFits (with_two w a b)
-two_fit w (Value x) (Value y) f g = go (same w arrive_word)
+two_fit : (w : List ℕ) (a b : Option ℕ) → NumeralFits a → NumeralFits b → ItemFits (with_two w a b)
+two_fit w (Some x) (Some y) f g = go (same w arrive_word)
   where
-    go : (t : Bool) → ItemFits (if t then Arrive x y else Other)
+    go : (t : Bool) → ItemFits (if t then Some (Arrive x y) else None)
     go true = (f, g)
     go false = tt
-two_fit w (Value x) Nothing f g = tt
-two_fit w Nothing b f g = tt
+two_fit w (Some x) None f g = tt
+two_fit w None b f g = tt
 
-one_fit : (w : List ℕ) (a : Numeral) → NumeralFits a → ItemFits (with_one w a)
-one_fit w (Value x) f = go (same w processors_word) (same w until_word)
+one_fit : (w : List ℕ) (a : Option ℕ) → NumeralFits a → ItemFits (with_one w a)
+one_fit w (Some x) f = go (same w processors_word) (same w until_word)
   where
-    go : (t u : Bool) → ItemFits (if t then Processors x else (if u then Until x else Other))
+    go : (t u : Bool) → ItemFits (if t then Some (Processors x) else (if u then Some (Until x) else None))
     go true u = f
     go false true = f
     go false false = tt
-one_fit w Nothing f = tt
+one_fit w None f = tt
 
-three_fit : (w : List ℕ) (a b c : Numeral) → NumeralFits a → NumeralFits b → NumeralFits c → ItemFits (with_three w a b c)
-three_fit w (Value x) (Value y) (Value z) f g h = go (same w task_word)
+three_fit : (w : List ℕ) (a b c : Option ℕ) → NumeralFits a → NumeralFits b → NumeralFits c → ItemFits (with_three w a b c)
+three_fit w (Some x) (Some y) (Some z) f g h = go (same w task_word)
   where
-    go : (t : Bool) → ItemFits (if t then Task x y z else Other)
+    go : (t : Bool) → ItemFits (if t then Some (Task x y z) else None)
     go true = (f, g, h)
     go false = tt
-three_fit w (Value x) (Value y) Nothing f g h = tt
-three_fit w (Value x) Nothing c f g h = tt
-three_fit w Nothing b c f g h = tt
+three_fit w (Some x) (Some y) None f g h = tt
+three_fit w (Some x) None c f g h = tt
+three_fit w None b c f g h = tt
 
 parts_fit : (ps : List (List ℕ)) → ItemFits (of_parts ps)
 parts_fit [] = tt
@@ -94,12 +92,12 @@ line_fits s at = go (ltb (end_at s at) (length s))
     go true = item_fits (take (end_at s at - at) (drop at s))
     go false = tt
 
-item_rows : (x : Item) → ItemFits x → RowsFit (row_by x)
-item_rows (Processors m) f = tt
-item_rows (Task p e d) f = (f, tt)
-item_rows (Arrive t i) f = tt
-item_rows (Until t) f = tt
-item_rows Other f = tt
+item_rows : (x : Option Item) → ItemFits x → RowsFit (row_by x)
+item_rows (Some (Processors m)) f = tt
+item_rows (Some (Task p e d)) f = (f, tt)
+item_rows (Some (Arrive t i)) f = tt
+item_rows (Some (Until t)) f = tt
+item_rows None f = tt
 
 fit_append : (a b : List Row) → RowsFit a → RowsFit b → RowsFit (a ++ b)
 fit_append [] b f g = g

@@ -1,5 +1,5 @@
 -- Laws of the walk over the lines
-use Rattle.std.specs.Prelude.{if◌then◌else◌}
+use Rattle.std.specs.Prelude.{if◌then◌else◌, Option, None}
 use Prim.Native.Nat.{ℕ, zero, suc, ◌+◌, ◌-◌, ◌≤◌, ◌<◌}
 use mathlib.Core.Path.{◌≡◌, refl, sym, ap, subst, ◌∙◌}
 use mathlib.Core.Bool.{Bool, true, false}
@@ -11,7 +11,6 @@ use lib.ListN.{length, get_or, take, drop}
 use Rattle.ground.specs.Tests.{Says}
 use Rattle.ground.proofs.Tests.{ltb_says}
 use Rattle.text.specs.declared.Item.{Item}
-use Rattle.text.specs.declared.Item.TheVariants.{Other}
 use Rattle.text.specs.declared.Line.{Line}
 use Rattle.text.specs.Parts.{first_at, newline, ended, lines_of}
 use Rattle.text.specs.Lines.{item_of}
@@ -19,7 +18,7 @@ use Rattle.text.specs.Meaning.{items_of, end_at, line_at, row_by, rows_in, is_ta
 use Rattle.text.proofs.Splitting.{piece_more, piece_last, split_some}
 
 abbrev pub no_line : List ℕ → Line
-no_line s = record { item = Other; next = length s }
+no_line s = record { item = None; next = length s }
 
 abbrev pub whole_line : List ℕ → ℕ → ℕ → Line
 whole_line s at e = record { item = item_of (take (e - at) (drop at s)); next = e + 1 }
@@ -75,9 +74,9 @@ items_whole s at h =
 pub items_none : (s : List ℕ) (at : ℕ) → length s ≤ at → items_of (drop at s) ≡ []
 items_none s at h = items_unended s at (omega arith)
 
--- what is gathered from the items of a text is gathered line by line: `by` says what one item gives, none for Other
-module _ {A : Type 0} (by : ℕ → Item → List A) (all : ℕ → List Item → List A) (from_none : (n : ℕ) → all n [] ≡ [])
-    (from_more : (n : ℕ) (x : Item) (l : List Item) → all n (x ∷ l) ≡ by n x ++ all (n + 1) l) (other : (n : ℕ) → by n Other ≡ []) where
+-- what is gathered from the items of a text is gathered line by line: `by` says what one item gives, none for no line of the form
+module _ {A : Type 0} (by : ℕ → Option Item → List A) (all : ℕ → List (Option Item) → List A) (from_none : (n : ℕ) → all n [] ≡ [])
+    (from_more : (n : ℕ) (x : Option Item) (l : List (Option Item)) → all n (x ∷ l) ≡ by n x ++ all (n + 1) l) (other : (n : ℕ) → by n None ≡ []) where
   pub walk : (s : List ℕ) (at n : ℕ) → all n (items_of (drop at s)) ≡ by n (line_at s at).item ++ all (n + 1) (items_of (drop (line_at s at).next s))
   unfolding line_at
   walk s at n = go (ltb (end_at s at) (length s)) (ltb_says (end_at s at) (length s))
@@ -130,7 +129,7 @@ module _ (s : List ℕ) (at n : ℕ) where
 
   pub row_line_end : (k : ℕ) → length s ≤ at → get_or (row_lines_in n (items_of (drop at s))) k 0 ≡ 0
   unfolding row_lines_in
-  row_line_end k h = ap (λ (l : List Item). get_or (row_lines_in n l) k 0) (items_none s at h)
+  row_line_end k h = ap (λ (l : List (Option Item)). get_or (row_lines_in n l) k 0) (items_none s at h)
 
 pub row_line_zero : (s : List ℕ) (row : ℕ) → row ≡ 0 → 0 ≡ row_line_of s row
 unfolding row_line_of

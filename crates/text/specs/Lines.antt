@@ -1,9 +1,7 @@
 -- WHAT A LINE SAYS
-use Rattle.std.specs.Prelude.{List, [], ◌∷◌, ℕ, if◌then◌else◌}
-use Rattle.text.specs.declared.Numeral.{Numeral}
-use Rattle.text.specs.declared.Numeral.TheVariants.{Value, Nothing}
+use Rattle.std.specs.Prelude.{List, [], ◌∷◌, ℕ, if◌then◌else◌, Option, Some, None}
 use Rattle.text.specs.declared.Item.{Item}
-use Rattle.text.specs.declared.Item.TheVariants.{Processors, Task, Arrive, Until, Other}
+use Rattle.text.specs.declared.Item.TheVariants.{Processors, Task, Arrive, Until}
 use Rattle.text.specs.Parts.{same, parts_of}
 use Rattle.text.specs.Numbers.{numeral_of}
 
@@ -24,32 +22,32 @@ abbrev pub until_word : List ℕ
 until_word = 117 ∷ 110 ∷ 116 ∷ 105 ∷ 108 ∷ []
 
 -- "processors M", "until T": a word and one number
-abbrev pub with_one : List ℕ → Numeral → Item
-with_one w (Value x) = if same w processors_word then Processors x else (if same w until_word then Until x else Other)
-with_one w Nothing = Other
+abbrev pub with_one : List ℕ → Option ℕ → Option Item
+with_one w (Some x) = if same w processors_word then Some (Processors x) else (if same w until_word then Some (Until x) else None)
+with_one w None = None
 
 -- "arrive T I": a word and two numbers
-abbrev pub with_two : List ℕ → Numeral → Numeral → Item
-with_two w (Value x) (Value y) = if same w arrive_word then Arrive x y else Other
-with_two w (Value x) Nothing = Other
-with_two w Nothing b = Other
+abbrev pub with_two : List ℕ → Option ℕ → Option ℕ → Option Item
+with_two w (Some x) (Some y) = if same w arrive_word then Some (Arrive x y) else None
+with_two w (Some x) None = None
+with_two w None b = None
 
 -- "task P E D": a word and three numbers
-abbrev pub with_three : List ℕ → Numeral → Numeral → Numeral → Item
-with_three w (Value x) (Value y) (Value z) = if same w task_word then Task x y z else Other
-with_three w (Value x) (Value y) Nothing = Other
-with_three w (Value x) Nothing c = Other
-with_three w Nothing b c = Other
+abbrev pub with_three : List ℕ → Option ℕ → Option ℕ → Option ℕ → Option Item
+with_three w (Some x) (Some y) (Some z) = if same w task_word then Some (Task x y z) else None
+with_three w (Some x) (Some y) None = None
+with_three w (Some x) None c = None
+with_three w None b c = None
 
 -- a word and its numbers
-abbrev pub of_parts : List (List ℕ) → Item
-of_parts [] = Other
-of_parts (w ∷ []) = Other
+abbrev pub of_parts : List (List ℕ) → Option Item
+of_parts [] = None
+of_parts (w ∷ []) = None
 of_parts (w ∷ a ∷ []) = with_one w (numeral_of a)
 of_parts (w ∷ a ∷ b ∷ []) = with_two w (numeral_of a) (numeral_of b)
 of_parts (w ∷ a ∷ b ∷ c ∷ []) = with_three w (numeral_of a) (numeral_of b) (numeral_of c)
-of_parts (w ∷ a ∷ b ∷ c ∷ d ∷ l) = Other
+of_parts (w ∷ a ∷ b ∷ c ∷ d ∷ l) = None
 
--- what a line says; Other is no line of the form
-unfoldable pub item_of : List ℕ → Item
+-- what a line says, if it is a line of the form
+unfoldable pub item_of : List ℕ → Option Item
 item_of line = of_parts (parts_of line)

@@ -1,8 +1,6 @@
 -- DECIMAL NUMBERS, as they are read
-use Rattle.std.specs.Prelude.{Bool, true, false, not, ◌&&◌, List, [], ◌∷◌, ℕ, ◌+◌, ◌*◌, ◌-◌, leb, eqb, if◌then◌else◌}
+use Rattle.std.specs.Prelude.{Bool, true, false, not, ◌&&◌, List, [], ◌∷◌, ℕ, ◌+◌, ◌*◌, ◌-◌, leb, eqb, if◌then◌else◌, Option, Some, None}
 use Rattle.ground.specs.Tests.{every}
-use Rattle.text.specs.declared.Numeral.{Numeral}
-use Rattle.text.specs.declared.Numeral.TheVariants.{Value, Nothing}
 
 -- the digits 0 to 9
 abbrev pub is_digit : ℕ → Bool
@@ -30,5 +28,5 @@ abbrev pub is_number : List ℕ → Bool
 is_number part = plain part && (every is_digit part && leb (spelled part) most_number)
 
 -- the number that a part is, if it is one
-unfoldable pub numeral_of : List ℕ → Numeral
-numeral_of part = if is_number part then Value (spelled part) else Nothing
+unfoldable pub numeral_of : List ℕ → Option ℕ
+numeral_of part = if is_number part then Some (spelled part) else None

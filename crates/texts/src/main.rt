@@ -1,8 +1,6 @@
 // The program on texts, files of the folder data that the input names, a line each: a line with the name, then what it writes.
 #![tactic(auto)]
 
-ghost use Rattle.std.specs.Prelude.{◌≤◌, length};
-
 use std::fs::File;
 use std::io;
 use std::rt::Files;
@@ -26,14 +24,9 @@ fn text(rt: &(impl Files + Print + Eprint), name: &[u8]) -> io::Result<()> {
 }
 
 // Each of the texts.
-fn texts(rt: &(impl Files + Print + Eprint), names: &[u8]) -> io::Result<()>
-    requires short { length names.now ≤ 65536 }
-{
-    let mut at: usize = 0;
-    while at < names.len() {
-        let end = at + reading::place_of(&names[at..], b'\n');
-        text(rt, &names[at..end])?;
-        at = end + 1;
+fn texts(rt: &(impl Files + Print + Eprint), names: &[u8]) -> io::Result<()> {
+    for line in names.split_inclusive(|b| *b == b'\n') {
+        text(rt, line.strip_suffix(b"\n").unwrap_or(line))?;
     }
     Ok(())
 }

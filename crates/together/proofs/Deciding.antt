@@ -1,6 +1,6 @@
 -- The test in the order in which the code decides it: the rows, the kept order, and then the queues
-use Rattle.std.specs.Prelude.{if◌then◌else◌}
-use mathlib.Core.Path.{◌≡◌, sym, ◌∙◌, ap}
+use Rattle.std.specs.Prelude.{Some, None, if◌then◌else◌}
+use mathlib.Core.Path.{◌≡◌, refl, sym, ◌∙◌, ap}
 use mathlib.Core.Bool.{Bool, true, false, ◌&&◌}
 use mathlib.Core.List.{List}
 use Prim.Native.Nat.{ℕ, ◌+◌, ◌*◌, ◌/◌, ◌%◌, ◌≤◌, ◌<◌, min}
@@ -43,6 +43,15 @@ ceil_least now scale = go (eqb (now % scale) 0)
     go : (b : Bool) → now / scale ≤ (if b then now / scale else now / scale + 1)
     go true = omega arith
     go false = omega arith
+
+-- WHAT THE ROWS' TEST ANSWERS
+pub front_is : (b : Bool) (x y : ℕ) → Some x ≡ (if b then Some y else None) → (b ≡ true) × (x ≡ y)
+front_is true x y e = (refl, cc)
+front_is false x y e = cc
+
+pub front_not : (b : Bool) (y : ℕ) → None ≡ (if b then Some y else None) → b ≡ false
+front_not true y e = cc
+front_not false y e = refl
 
 module _ (s : State) where
   -- THE ROWS

@@ -7,7 +7,6 @@ use Rattle.rules.specs.Scale.{scale_of, share_of}
 use Rattle.rules.specs.Planes.{falling, shares_of}
 use Rattle.rules.specs.Reasons.{RowOk}
 use Rattle.rules.specs.Holds.{holds}
-use Rattle.queue.specs.declared.Queue.{Queue}
 use Rattle.table.specs.declared.Table.{Table}
 use Rattle.state.specs.declared.State.{State}
 use Rattle.state.specs.Machine.{tick_at}
@@ -43,20 +42,6 @@ arrivals_ok s = lasts_ok s.jobs.arrived s.jobs.awake s.jobs.last (tick_at s) s.t
 -- "Exactly this": the table, the instant, the conditions, the plane, the last arrivals, the orders
 unfoldable pub holds_of : State → Bool
 holds_of s = table_ok s.table && (clock_ok s && (sound_of s && (plane_ok s && (arrivals_ok s && order_ok s.table))))
-
--- the state of these parts
-abbrev pub state_of : Table → ℕ → Bool → ℕ → List Bool → List Bool → List ℕ → Queue → Queue → List ℕ → State
-state_of t now going end awake arrived last r w slots =
-    record {
-      table = t;
-      now = record { 0 = now };
-      going = going;
-      end = end;
-      jobs = record { awake = awake; arrived = arrived; last = last };
-      running = r;
-      waiting = w;
-      slots = slots;
-    }
 
 -- the rows of a table, and their shares
 abbrev pub rows_in : Table → List Row

@@ -2,3 +2,4 @@ pub mod Bounds
 pub mod Meeting
 pub mod Entries
 pub mod Planes
+pub mod Slots

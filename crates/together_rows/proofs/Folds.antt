@@ -37,7 +37,7 @@ below_says P f (suc n) s = go (f n) (s n (omega arith)) (all_below n f) (below_s
 
 is_itself : (b : Bool) → Says (b ≡ true) b
 is_itself true = refl
-is_itself false = λ e. let z : ◌≡◌ {A = ℕ} 0 1 = cc in omega arith
+is_itself false = λ e. cc
 
 itself_says : (f : ℕ → Bool) (n : ℕ) → Says ((i : ℕ) → i < n → f i ≡ true) (all_below n f)
 itself_says f n = below_says (λ i. f i ≡ true) f n (λ i h. is_itself (f i))
@@ -54,7 +54,7 @@ pub all_at : (f : ℕ → Bool) (n i : ℕ) → all_below n f ≡ true → i < n
 all_at f n i h k = of_true (all_below n f) (itself_says f n) h i k
 
 pub all_fails : (f : ℕ → Bool) (n i : ℕ) → i < n → f i ≡ false → all_below n f ≡ false
-all_fails f n i h e = is_false (all_below n f) (itself_says f n) (λ r. let q = r i h in let z : ◌≡◌ {A = ℕ} 0 1 = cc in omega arith)
+all_fails f n i h e = is_false (all_below n f) (itself_says f n) (λ r. let q = r i h in cc)
 
 -- every place was passed
 pub all_whole : (f : ℕ → Bool) (n i : ℕ) → n ≤ i → all_below i f ≡ true → all_below n f ≡ true
@@ -132,28 +132,7 @@ and_next a b e = ap (λ (t : Bool). t && b) e
 -- both tests pass
 pub and_both : (a b : Bool) → a && b ≡ true → (a ≡ true) × (b ≡ true)
 and_both true b e = (refl, e)
-and_both false b e = let z : ◌≡◌ {A = ℕ} 0 1 = cc in absurd (omega arith)
-
--- the same tests in another order: m and r, then w, then z
-pub parts_first : (m r w z : Bool) → m && r ≡ false → (r && (w && z)) && m ≡ false
-parts_first true true w z e = let y : ◌≡◌ {A = ℕ} 0 1 = cc in absurd (omega arith)
-parts_first true false w z e = refl
-parts_first false true true true e = refl
-parts_first false true true false e = refl
-parts_first false true false z e = refl
-parts_first false false w z e = refl
-
-pub parts_second : (m r w z : Bool) → w ≡ false → (r && (w && z)) && m ≡ false
-parts_second m true true z e = let y : ◌≡◌ {A = ℕ} 0 1 = cc in absurd (omega arith)
-parts_second m true false z e = refl
-parts_second m false w z e = refl
-
-pub parts_last : (m r w z : Bool) → m && r ≡ true → w ≡ true → (r && (w && z)) && m ≡ z
-parts_last true true true true e f = refl
-parts_last true true true false e f = refl
-parts_last true true false z e f = let y : ◌≡◌ {A = ℕ} 0 1 = cc in absurd (omega arith)
-parts_last true false w z e f = let y : ◌≡◌ {A = ℕ} 0 1 = cc in absurd (omega arith)
-parts_last false r w z e f = let y : ◌≡◌ {A = ℕ} 0 1 = cc in absurd (omega arith)
+and_both false b e = cc
 
 -- the second test decides
 pub second_fails : (a b : Bool) → b ≡ false → a && b ≡ false
@@ -170,7 +149,7 @@ refuted b n = is_false b (is_itself b) n
 
 -- no test passes and fails
 pub clash : {A : Type 0} (b : Bool) → b ≡ false → b ≡ true → A
-clash b e f = let z : ◌≡◌ {A = ℕ} 0 1 = cc in absurd (omega arith)
+clash b e f = cc
 
 -- both tests of every number, or each by itself
 pub all_both : (f g : ℕ → Bool) (n : ℕ) → all_below n (λ i. f i && g i) ≡ true → (all_below n f ≡ true) × (all_below n g ≡ true)

@@ -1,7 +1,7 @@
 -- The tests of the table, the instant, the last arrivals and the limits, one by one
-use mathlib.Core.Path.{◌≡◌, ◌∙◌}
+use Rattle.std.specs.Prelude.{Option, Some, None, if◌then◌else◌}
+use mathlib.Core.Path.{◌≡◌, ◌∙◌, ap}
 use mathlib.Core.Bool.{Bool, true, false, ◌&&◌}
-use mathlib.Core.List.{List}
 use Prim.Native.Nat.{ℕ, ◌+◌, ◌*◌, ◌/◌, ◌≤◌, ◌<◌, min}
 use native.Mathlib.Omega.{arith}
 use lib.Dec.{leb, eqb}
@@ -14,9 +14,11 @@ use Rattle.rules.proofs.Holding.{processors_says}
 use Rattle.queue.specs.Below.{all_below}
 use Rattle.table.specs.Rows.{share_sum_of}
 use Rattle.table.specs.declared.Table.{Table}
+use Rattle.together_rows.specs.declared.Jobs.{Jobs}
+use Rattle.together_rows.specs.declared.Times.{Times}
 use Rattle.together_rows.specs.Tables.{row_ok, rows_ok, scale_in_range, share_ok, shares_ok, common_below, scale_ok, table_ok}
-use Rattle.together_rows.specs.Jobs.{last_ok, lasts_ok, limit_ok, limits_ok, ceil_of, reach_of}
-use Rattle.together_rows.specs.Front.{each_ok, front_of}
+use Rattle.together_rows.specs.Jobs.{last_ok, lasts_ok, limit_ok, limits_ok, ceil_of}
+use Rattle.together_rows.specs.Front.{each_ok, times_of, front_of}
 use Rattle.together_rows.proofs.Bounds.{within, row_within, tick_small, ceil_small}
 use Rattle.together_rows.proofs.Folds.{all_at, all_both, all_joined, and_both, and_next, refuted, clash}
 
@@ -51,12 +53,15 @@ sized_of n m l now e =
     }
 
 -- ONE BY ONE
-module _ (t : Table) (now : ℕ) (going : Bool) (end : ℕ) (arrived awake : List Bool) (last : List ℕ) where
+module _ (t : Table) (now : ℕ) (going : Bool) (end : ℕ) (jobs : Jobs) where
+  abbrev times : Times
+  times = times_of now t.scale going end
+
   abbrev each_row : Bool
-  each_row = each_ok t.scale t.period t.exec t.deadline t.share arrived awake last (now / t.scale) (ceil_of now t.scale) (reach_of going end (now / t.scale)) t.count
+  each_row = each_ok t jobs times t.count
 
   abbrev front : Bool
-  front = front_of t now going end arrived awake last
+  front = front_of t now going end jobs.arrived.now jobs.awake.now jobs.last.now
 
   abbrev row_at : ℕ → Bool
   row_at i = row_ok (get_or t.period i 0) (get_or t.exec i 0) (get_or t.deadline i 0)
@@ -65,10 +70,12 @@ module _ (t : Table) (now : ℕ) (going : Bool) (end : ℕ) (arrived awake : Lis
   share_at i = share_ok t.scale (min (get_or t.period i 0) (get_or t.deadline i 0)) (get_or t.exec i 0) (get_or t.share i 0)
 
   abbrev last_at : ℕ → Bool
-  last_at i = last_ok (get_or arrived i false) (get_or awake i false) (get_or last i 0) (now / t.scale)
+  last_at i = last_ok (get_or jobs.arrived.now i false) (get_or jobs.awake.now i false) (get_or jobs.last.now i 0) times.tick
 
   abbrev limit_at : ℕ → Bool
-  limit_at i = limit_ok (get_or awake i false) (get_or arrived i false) (get_or last i 0) (get_or t.period i 0) (get_or t.deadline i 0) (ceil_of now t.scale) (reach_of going end (now / t.scale))
+  limit_at i =
+      limit_ok (get_or jobs.awake.now i false) (get_or jobs.arrived.now i false) (get_or jobs.last.now i 0) (get_or t.period i 0) (get_or t.deadline i 0)
+      times.ceil times.reach
 
   pub record Front : Type 0 where
     pub sized : sizes t.count t.m t.scale now ≡ true
@@ -87,7 +94,7 @@ module _ (t : Table) (now : ℕ) (going : Bool) (end : ℕ) (arrived awake : Lis
       let u = and_both (scale_ok t.scale t.period t.exec t.deadline t.share t.count) _ s.1 in
       let v = and_both (shares_ok t.scale t.period t.exec t.deadline t.share t.count) _ u.0 in
       let k = and_both (leb now (clock * t.scale)) _ a.1 in
-      let j = and_both (lasts_ok arrived awake last (now / t.scale) t.count) _ k.1 in
+      let j = and_both (lasts_ok jobs.arrived.now jobs.awake.now jobs.last.now times.tick t.count) _ k.1 in
       record {
         sized = and_next (processors_ok t.m) _ p.0 ∙ and_next (leb 1 t.count && leb t.count 128) _ c.0 ∙ and_next (scale_in_range t.scale) _ s.0 ∙ k.0;
         each = all_joined (λ i. row_at i && share_at i) (λ i. last_at i && limit_at i) t.count (all_joined row_at share_at t.count r.0 v.0) (all_joined last_at limit_at t.count j.0 j.1);
@@ -104,7 +111,7 @@ module _ (t : Table) (now : ℕ) (going : Bool) (end : ℕ) (arrived awake : Lis
     pub each_some : (i : ℕ) → i < t.count → 0 < min (get_or t.period i 0) (get_or t.deadline i 0)
     each_some i h = (row_within (get_or t.period i 0) (get_or t.exec i 0) (get_or t.deadline i 0) (all_at row_at t.count i (all_both row_at share_at t.count halves.0).0 h)).some
 
-  pub front_whole : Front → front ≡ true
+  front_whole : Front → front ≡ true
   unfolding front_of table_ok scale_ok rows_ok shares_ok lasts_ok limits_ok
   front_whole F =
       let p = and_both (processors_ok t.m) _ F.sized in
@@ -118,17 +125,30 @@ module _ (t : Table) (now : ℕ) (going : Bool) (end : ℕ) (arrived awake : Lis
       ∙ and_next (scale_in_range t.scale) _ s.0
       ∙ and_next (scale_ok t.scale t.period t.exec t.deadline t.share t.count) _ (and_next (shares_ok t.scale t.period t.exec t.deadline t.share t.count) _ r.1 ∙ F.least)
       ∙ F.sum)
-      ∙ and_next (leb now (clock * t.scale)) _ s.1 ∙ and_next (lasts_ok arrived awake last (now / t.scale) t.count) _ j.0 ∙ j.1
+      ∙ and_next (leb now (clock * t.scale)) _ s.1 ∙ and_next (lasts_ok jobs.arrived.now jobs.awake.now jobs.last.now times.tick t.count) _ j.0 ∙ j.1
+
+  -- WHAT IS ANSWERED
+  abbrev answer : ℕ → Option ℕ
+  answer x = if front then Some x else None
+
+  front_true : (x : ℕ) → front ≡ true → Some x ≡ answer x
+  front_true x e = rw e
+
+  front_false : (x : ℕ) → front ≡ false → None ≡ answer x
+  front_false x e = rw e
+
+  pub front_passes : (x y : ℕ) → Front → x ≡ y → Some x ≡ answer y
+  front_passes x y F e = ap Some e ∙ front_true y (front_whole F)
 
   -- THE TEST THAT FAILS
-  pub sizes_fail : sizes t.count t.m t.scale now ≡ false → front ≡ false
-  sizes_fail e = refuted front (λ f. clash (sizes t.count t.m t.scale now) e (front_parts f).sized)
+  pub sizes_fail : (x : ℕ) → sizes t.count t.m t.scale now ≡ false → None ≡ answer x
+  sizes_fail x e = front_false x (refuted front (λ f. clash (sizes t.count t.m t.scale now) e (front_parts f).sized))
 
-  pub rows_fail : each_row ≡ false → front ≡ false
-  rows_fail e = refuted front (λ f. clash each_row e (front_parts f).each)
+  pub rows_fail : (x : ℕ) → each_row ≡ false → None ≡ answer x
+  rows_fail x e = front_false x (refuted front (λ f. clash each_row e (front_parts f).each))
 
-  pub sum_fails : t.m * t.scale < share_sum_of t.share t.count → front ≡ false
-  sum_fails h = refuted front (λ f. clash (leb (share_sum_of t.share t.count) (t.m * t.scale)) (lt-leb _ _ h) (front_parts f).sum)
+  pub sum_fails : (x : ℕ) → t.m * t.scale < share_sum_of t.share t.count → None ≡ answer x
+  sum_fails x h = front_false x (refuted front (λ f. clash (leb (share_sum_of t.share t.count) (t.m * t.scale)) (lt-leb _ _ h) (front_parts f).sum))
 
-  pub least_fails : eqb (common_below t.scale t.period t.deadline t.count) 1 ≡ false → front ≡ false
-  least_fails e = refuted front (λ f. clash (eqb (common_below t.scale t.period t.deadline t.count) 1) e (front_parts f).least)
+  pub least_fails : (x : ℕ) → eqb (common_below t.scale t.period t.deadline t.count) 1 ≡ false → None ≡ answer x
+  least_fails x e = front_false x (refuted front (λ f. clash (eqb (common_below t.scale t.period t.deadline t.count) 1) e (front_parts f).least))

@@ -45,10 +45,6 @@ table_ok t =
     processors_ok t.m && ((leb 1 t.count && leb t.count 128) && (rows_ok t.period t.exec t.deadline t.count
     && (scale_in_range t.scale && (scale_ok t.scale t.period t.exec t.deadline t.share t.count && leb (share_sum_of t.share t.count) (t.m * t.scale)))))
 
--- the table of these columns
-abbrev pub table_of : List ℕ → List ℕ → List ℕ → List ℕ → List ℕ → ℕ → ℕ → ℕ → Table
-table_of ps es ds xs os n m l = record { period = ps; exec = es; deadline = ds; share = xs; order = os; count = n; m = m; scale = l }
-
 -- THE KEPT ORDER
 -- each of the first n entries is a place below n
 unfoldable pub places_ok : List ℕ → ℕ → Bool

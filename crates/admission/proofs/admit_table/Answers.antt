@@ -1,32 +1,21 @@
-use mathlib.Core.Path.{◌≡◌, sym, ◌∙◌}
-use mathlib.Core.Bool.{true, false}
-use lib.ListN.{length}
-use Rattle.rules.specs.Admission.{processors_ok, length_ok}
-use Rattle.admission.proofs.Reading.{by_processors, by_length, by_rows}
+use mathlib.Core.Path.{◌∙◌, ap}
+use Rattle.rules.specs.Table.{rows_of}
+use Rattle.rules.specs.Admission.{Verdict}
+use Rattle.rules.specs.Answers.{Done}
+use Rattle.table.specs.declared.Table.{Table}
+use Rattle.table.specs.Tabled.{tabled_by, tabled_of}
+use Rattle.std.specs.Prelude.{Err}
 use Rattle.admission.proofs.admit_table.Goals as goal
 
-pub returns-then-not-processors_ok : goal.returns-then-not-processors_ok
-returns-then-not-processors_ok c =
-    record {
-      is = let a = c.args in
-          let p : processors_ok a.m ≡ false = sym c.processors_ok.ensures.is ∙ c.if-not-processors_ok.true in
-          c.refused.ensures.is ∙ by_processors a.bytes.now a.m p;
-    }
+pub returns-in-Err-clause-is : goal.returns-in-Err-clause-is
+unfolding tabled_of
+returns-in-Err-clause-is c =
+    let f = c.in-Err.fault in
+    ap (λ (t : Table). record { answer = Err f.refusal; row = f.row; table = t }) c.clear.ensures.is
+    ∙ ap (λ (v : Verdict). tabled_by v c.args.m (rows_of c.args.bytes.now)) c.in-Err.ensures.is
 
-pub returns-then-not-length_ok : goal.returns-then-not-length_ok
-returns-then-not-length_ok c =
-    record {
-      is = let a = c.args in
-          let p : processors_ok a.m ≡ true = sym c.processors_ok.ensures.is ∙ c.if-not-processors_ok.false in
-          let l : length_ok (length a.bytes.now) ≡ false = sym c.length_ok.ensures.is ∙ c.if-not-length_ok.true in
-          c.refused-then-not-length_ok.ensures.is ∙ by_length a.bytes.now a.m p l;
-    }
-
-pub returns : goal.returns
-returns c =
-    record {
-      is = let a = c.args in
-          let p : processors_ok a.m ≡ true = sym c.processors_ok.ensures.is ∙ c.if-not-processors_ok.false in
-          let l : length_ok (length a.bytes.now) ≡ true = sym c.length_ok.ensures.is ∙ c.if-not-length_ok.false in
-          c.read.ensures.is ∙ by_rows a.bytes.now a.m p l;
-    }
+pub returns-clause-is : goal.returns-clause-is
+unfolding tabled_of
+returns-clause-is c =
+    ap (λ (t : Table). record { answer = Done; row = 0; table = t }) c.in_default.ensures.made
+    ∙ ap (λ (v : Verdict). tabled_by v c.args.m (rows_of c.args.bytes.now)) c.in_default.ensures.is

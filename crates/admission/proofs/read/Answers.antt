@@ -1,48 +1,37 @@
-use mathlib.Core.Path.{◌≡◌, sym, ◌∙◌, ap}
-use mathlib.Core.Bool.{true, false}
+use mathlib.Core.Path.{sym, ◌∙◌, ap}
 use mathlib.Core.List.{List}
-use Rattle.rules.specs.Answers.{is_done}
+use Rattle.std.proofs.lemmas.Result.{err_from_is_err_and}
 use Rattle.rules.specs.Table.{Row, rows_of}
-use Rattle.rules.specs.Admission.{Verdict, fault_from, size_verdict}
-use Rattle.table.specs.declared.Finding.{Finding}
-use Rattle.table.specs.Rows.{finding_of}
-use Rattle.table.specs.Tabled.{refusal, tabled_by}
-use Rattle.admission.proofs.Reading.{read_as, refusal_is, rows_fault, rows_sized}
+use Rattle.rules.specs.Admission.{fault_from, size_verdict}
+use Rattle.table.specs.Tabled.{table_from}
+use Rattle.admission.proofs.Reading.{read_as, rows_fault, rows_sized}
+use Rattle.admission.proofs.Tables.{made_is, weighed_long}
 use Rattle.admission.proofs.read.Goals as goal
 
-pub returns-then-not-is_done : goal.returns-then-not-is_done
-returns-then-not-is_done c =
-    record {
-      is = let a = c.args in
-          let rows = rows_of a.bytes.now in
-          let r = read_as a.bytes.now a.count _ _ _ c.requires.inside.1 c.requires.inside.2 c.column.ensures.is c.column-2.ensures.is c.column-3.ensures.is in
-          let found : c.first_fault-found.result ≡ finding_of (fault_from 1 rows) = c.first_fault-found.ensures.is ∙ ap (λ (l : List Row). finding_of (fault_from 1 l)) r.rows in
-          let no : is_done (fault_from 1 rows).answer ≡ false = ap (λ (f : Finding). is_done f.answer) (sym found) ∙ sym c.is_done.ensures.is ∙ c.if-not-is_done.true in
-          c.refused.ensures.is
-          ∙ ap (λ (f : Finding). refusal f.answer f.row) found
-          ∙ refusal_is (fault_from 1 rows) a.m rows no
-          ∙ ap (λ (v : Verdict). tabled_by v a.m rows) (sym (rows_fault a.m rows no));
-    }
+pub returns-in_err-first_fault-clause-is : goal.returns-in_err-first_fault-clause-is
+returns-in_err-first_fault-clause-is c =
+    let p = err_from_is_err_and c.from_residual.result c.from_residual.ensures.1 in
+    let r = read_as c.args.bytes.now c.args.count _ _ _ c.requires.inside.1 c.requires.inside.2 c.column.ensures.is c.column-2.ensures.is c.column-3.ensures.is in
+    rw (p.1, p.2) (rows_fault c.args.m (rows_of c.args.bytes.now) c.in_err-first_fault.field-0.0 (c.in_err-first_fault.ensures.is ∙ ap (λ (l : List Row). fault_from 1 l) r.rows))
 
-pub sized-requires : goal.sized-requires
-sized-requires c =
-    record {
-      inside = let a = c.args in
-          let rows = rows_of a.bytes.now in
-          let r = read_as a.bytes.now a.count _ _ _ c.requires.inside.1 c.requires.inside.2 c.column.ensures.is c.column-2.ensures.is c.column-3.ensures.is in
-          let yes = ap (λ (f : Finding). is_done f.answer) (sym c.first_fault-found.ensures.is) ∙ sym c.is_done.ensures.is ∙ c.if-not-is_done.false in
-          (c.requires.inside.0, c.requires.inside.1, (r.periods, r.execs, r.deadlines, yes));
-    }
+pub returns-in_err-scale-clause-is : goal.returns-in_err-scale-clause-is
+returns-in_err-scale-clause-is c =
+    let p = err_from_is_err_and c.from_residual-in_err-scale.result c.from_residual-in_err-scale.ensures.1 in
+    let r = read_as c.args.bytes.now c.args.count _ _ _ c.requires.inside.1 c.requires.inside.2 c.column.ensures.is c.column-2.ensures.is c.column-3.ensures.is in
+    let fault = c.in_ok-first_fault.ensures.is ∙ ap (λ (l : List Row). fault_from 1 l) r.rows in
+    rw (p.1, p.2) (c.in_err-scale.ensures.is ∙ ap (λ (l : List Row). size_verdict c.args.m l) r.rows ∙ rows_sized c.args.m (rows_of c.args.bytes.now) fault)
 
-pub returns : goal.returns
-returns c =
-    record {
-      is = let a = c.args in
-          let rows = rows_of a.bytes.now in
-          let r = read_as a.bytes.now a.count _ _ _ c.requires.inside.1 c.requires.inside.2 c.column.ensures.is c.column-2.ensures.is c.column-3.ensures.is in
-          let found : c.first_fault-found.result ≡ finding_of (fault_from 1 rows) = c.first_fault-found.ensures.is ∙ ap (λ (l : List Row). finding_of (fault_from 1 l)) r.rows in
-          let yes : is_done (fault_from 1 rows).answer ≡ true = ap (λ (f : Finding). is_done f.answer) (sym found) ∙ sym c.is_done.ensures.is ∙ c.if-not-is_done.false in
-          c.sized.ensures.is
-          ∙ ap (λ (l : List Row). tabled_by (size_verdict a.m l) a.m l) r.rows
-          ∙ ap (λ (v : Verdict). tabled_by v a.m rows) (sym (rows_sized a.m rows yes));
-    }
+pub fall-requires : goal.fall-requires
+fall-requires c = record { inside = (c.requires.inside.1, weighed_long _ _ _ c.args.count c.args.m c.in_ok-scale.scale _ c.requires.inside.1 c.in_ok-scale.ensures.is) }
+
+pub returns-clause-is : goal.returns-clause-is
+returns-clause-is c =
+    let r = read_as c.args.bytes.now c.args.count _ _ _ c.requires.inside.1 c.requires.inside.2 c.column.ensures.is c.column-2.ensures.is c.column-3.ensures.is in
+    let fault = c.in_ok-first_fault.ensures.is ∙ ap (λ (l : List Row). fault_from 1 l) r.rows in
+    sym c.in_ok-scale.ensures.is.fits ∙ ap (λ (l : List Row). size_verdict c.args.m l) r.rows ∙ rows_sized c.args.m (rows_of c.args.bytes.now) fault
+
+pub returns-clause-made : goal.returns-clause-made
+returns-clause-made c =
+    let r = read_as c.args.bytes.now c.args.count _ _ _ c.requires.inside.1 c.requires.inside.2 c.column.ensures.is c.column-2.ensures.is c.column-3.ensures.is in
+    made_is _ _ _ c.args.count c.args.m c.in_ok-scale.scale _ _ c.requires.inside.1 r.periods r.execs r.deadlines c.in_ok-scale.ensures.is c.fall.ensures.is
+    ∙ ap (table_from c.args.m) r.rows

@@ -1,21 +1,29 @@
-use Rattle.std.proofs.Common.{◌∙◌, arith}
-use Rattle.bench_step.proofs.Doing.{doing_taken, doing_on, doing_end}
+use Rattle.std.proofs.Common.{rules, sym, ◌∙◌, arith}
+use Rattle.inplace.proofs.Places.{same_on}
+use Rattle.calls.proofs.Answering.{joined_is}
+use Rattle.bench_step.proofs.Doing.{doing_from, doing_taken, doing_on, doing_end}
 use Rattle.bench_step.proofs.held_calls.Goals as goal
 
-pub held_call-r-requires : goal.held_call-r-requires
-held_call-r-requires c =
-    record {
-      taken = let k = c.loop-i in
-          let p = c.requires.taken in
-          let D = k.invariant.0 p.1.0 p.1.1.0 p.1.1.1 in
-          (omega (arith, k.invariant.1, p.0), (p.1.0, (D.whole, doing_taken _ _ _ _ D c.loop-i-test.true)));
-    }
+pub loop-call-init : goal.loop-call-init
+loop-call-init c = (search rules, search rules, λ e W T. doing_from _ _ W T)
 
-pub loop-i-preserved : goal.loop-i-preserved
-loop-i-preserved c =
-    let e = c.held_call-r.ensures.is in
-    let k = c.loop-i in
-    (λ z W T. doing_on _ _ _ _ (k.invariant.0 z W T) c.loop-i-test.true _ (e.1 z), e.0 ∙ k.invariant.1)
+pub held_call-requires : goal.held_call-requires
+held_call-requires c =
+    let k = c.loop-call in
+    let r = c.requires.taken.1 in
+    let D = k.invariant.2 r.0 r.1.0 r.1.1 in
+    record { taken = (omega (arith, k.invariant.1, c.requires.taken.0), (r.0, (D.whole, doing_taken _ _ _ _ D c.loop-call-test.true))) }
+
+pub loop-call-preserved : goal.loop-call-preserved
+loop-call-preserved c =
+    let h = c.held_call.ensures in
+    let k = c.loop-call in
+    (same_on k.invariant.0 h.same, h.long ∙ k.invariant.1, λ e W T. doing_on _ _ _ _ (k.invariant.2 e W T) c.loop-call-test.true _ (h.is e))
 
 pub returns : goal.returns
-returns c = record { is = λ z W T. doing_end _ _ _ _ (c.loop-i.invariant.0 z W T) c.loop-i-test.false }
+returns c =
+    record {
+      is = λ e W T.
+          let D = c.loop-call.invariant.2 e W T in
+          joined_is _ _ _ _ _ _ _ _ (sym D.table) (search rules) (search rules) (search rules) (search rules) (search rules) (search rules) ∙ doing_end _ _ _ _ D c.loop-call-test.false;
+    }

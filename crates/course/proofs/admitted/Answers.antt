@@ -1,20 +1,15 @@
-use Rattle.std.proofs.Common.{sym, ◌∙◌}
+use Rattle.std.proofs.Common.{ap, ◌∙◌}
 use Rattle.text.proofs.Puts.{put_part}
-use Rattle.course.proofs.Turning.{admitted_no, admitted_yes}
+use Rattle.course.specs.Turns.{refused_at}
+use Rattle.course.proofs.Turning.{admitted_is}
 use Rattle.course.proofs.admitted.Goals as goal
 
-pub returns-then-not-is_done : goal.returns-then-not-is_done
-returns-then-not-is_done c =
-    record {
-      is = let a = c.args in
-          admitted_no a.text.now a.c c.admit-a.result _ _ c.admit-a.ensures.is (put_part _ _ _ _ c.table-t.ensures.is) c.processors-m.ensures.is
-          (sym c.is_done.ensures.is ∙ c.if-not-is_done.true) _ c.row_line-line.ensures.is _ c.ended.ensures.is;
-    }
+pub returns-in-Ok : goal.returns-in-Ok
+returns-in-Ok c = record { is = admitted_is c.args.text.now c.args.c c.admit-a.result _ _ _ c.admit-a.ensures.is (put_part _ _ _ _ c.table-len.ensures.is) c.processors-m.ensures.is c.in-Ok.is }
 
-pub returns : goal.returns
-returns c =
+pub returns-in-Err : goal.returns-in-Err
+returns-in-Err c =
     record {
-      is = let a = c.args in
-          admitted_yes a.text.now a.c c.admit-a.result _ _ c.admit-a.ensures.is (put_part _ _ _ _ c.table-t.ensures.is) c.processors-m.ensures.is
-          (sym c.is_done.ensures.is ∙ c.if-not-is_done.false);
+      is = c.refused.ensures.is ∙ ap (refused_at c.args.c c.in-Err.refusal) c.row_line.ensures.is
+          ∙ admitted_is c.args.text.now c.args.c c.admit-a.result _ _ _ c.admit-a.ensures.is (put_part _ _ _ _ c.table-len.ensures.is) c.processors-m.ensures.is c.in-Err.is;
     }

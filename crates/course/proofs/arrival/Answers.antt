@@ -1,17 +1,15 @@
-use Rattle.std.proofs.Common.{sym, ◌∙◌}
-use Rattle.course.proofs.Turning.{arrival_no, arrival_yes}
+use Rattle.std.proofs.Common.{ℕ, None, ap, ◌∙◌}
+use Rattle.course.specs.declared.Stage.TheVariants.{Lines}
+use Rattle.course.specs.Turns.{turned}
+use Rattle.course.proofs.Turning.{arrival_is}
 use Rattle.course.proofs.arrival.Goals as goal
 
-pub returns-then-not-is_done : goal.returns-then-not-is_done
-returns-then-not-is_done c =
+pub returns-in-Ok : goal.returns-in-Ok
+returns-in-Ok c =
     record {
-      is = let a = c.args in
-          arrival_no a.c a.task a.next _ c.arrive-a.ensures.is (sym c.is_done.ensures.is ∙ c.if-not-is_done.true) _ c.ended.ensures.is;
+      is = ap (λ (line : ℕ). turned c.arrive-a.result.state c.args.next line Lines None) c.line_after.ensures.is
+          ∙ arrival_is c.args.c c.args.task c.args.next c.arrive-a.result _ c.arrive-a.ensures.is c.in-Ok.is;
     }
 
-pub returns : goal.returns
-returns c =
-    record {
-      is = let a = c.args in
-          arrival_yes a.c a.task a.next _ c.arrive-a.ensures.is (sym c.is_done.ensures.is ∙ c.if-not-is_done.false) _ c.line_after.ensures.is;
-    }
+pub returns-in-Err : goal.returns-in-Err
+returns-in-Err c = record { is = c.refused.ensures.is ∙ arrival_is c.args.c c.args.task c.args.next c.arrive-a.result _ c.arrive-a.ensures.is c.in-Err.is }

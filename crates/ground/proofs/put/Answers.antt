@@ -1,27 +1,28 @@
-use Prim.Native.Nat.{◌+◌}
-use mathlib.Core.Path.{refl, sym, ◌∙◌}
-use native.Mathlib.Nat.{add-zero}
+use Prim.Native.Nat.{ℕ, ◌+◌, ◌-◌}
+use mathlib.Core.List.{List}
+use mathlib.Core.Path.{sym, ◌∙◌, ap}
 use native.Mathlib.Omega.{arith}
-use lib.ListN.{length-set}
+use borrow.Rule.Slice.PartMut.{put_mid}
+use lib.ListN.{take, drop}
 use Rattle.ground.specs.Bytes.{le}
-use Rattle.ground.proofs.Bytes.{length_le, stored, le_turn, le_none}
+use Rattle.ground.proofs.Bytes.{length_le, le_turn, le_none, part_long, part_stored}
 use Rattle.ground.proofs.put.Goals as goal
 
-pub loop-i-init : goal.loop-i-init
-loop-i-init c = (c.args.width, omega arith, refl, rw add-zero)
-
-pub loop-i-preserved : goal.loop-i-preserved
-loop-i-preserved c =
-    let k = c.loop-i in
-    let t = le_turn k.bytes c.args.at k.i k.invariant.0 k.y (omega arith) in
-    (t.0, omega arith, simp length-set k.invariant.2, sym t.2 ∙ k.invariant.3)
+pub loop-byte-preserved : goal.loop-byte-preserved
+loop-byte-preserved c =
+    let k = c.loop-byte in
+    let a = c.args in
+    let long = part_long a.bytes.now a.at a.width c.requires.fits in
+    sym (le_turn k.byte-items k.byte-index (a.width - k.byte-index) (a.width - (k.byte-index + 1)) k.rest (omega (arith, long, c.loop-byte-test.true))) ∙ k.invariant
 
 pub returns : goal.returns
 returns c =
     record {
-      is = let k = c.loop-i in
+      is = let k = c.loop-byte in
           let a = c.args in
-          sym (le_none k.bytes (a.at + k.i) k.invariant.0 k.y (omega arith))
-          ∙ k.invariant.3
-          ∙ stored a.bytes.now (le a.width a.x) a.at (omega (arith, length_le a.width a.x));
+          let part = take (a.at + a.width - a.at) (drop a.at a.bytes.now) in
+          let long = part_long a.bytes.now a.at a.width c.requires.fits in
+          ap (λ (v : List ℕ). put_mid a.at (a.at + a.width - a.at) a.bytes.now v)
+          (sym (le_none k.byte-items k.byte-index (a.width - k.byte-index) k.rest (omega (arith, long, c.loop-byte-test.false))) ∙ k.invariant)
+          ∙ part_stored a.bytes.now part (le a.width a.x) a.at (a.at + a.width - a.at) (omega (arith, long)) (omega (arith, length_le a.width a.x));
     }

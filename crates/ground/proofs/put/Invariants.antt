@@ -1,12 +1,8 @@
-use Prim.Native.Nat.{ℕ, ◌+◌, ◌-◌}
+use Prim.Native.Nat.{◌-◌}
 use mathlib.Core.Path.{◌≡◌}
-use lib.ListN.{length}
 use lib.Seq.{sets}
 use Rattle.ground.specs.Bytes.{le}
 use Rattle.ground.proofs.put.Given as goal
 
-abbrev pub invariant-loop-i : goal.invariant-loop-i
-invariant-loop-i l = (m : ℕ) × (l.i + m ≡ l.width) × (length l.bytes ≡ length l.initial.bytes) × (sets l.bytes (l.at + l.i) (le m l.y) ≡ sets l.initial.bytes l.at (le l.width l.x))
-
-abbrev pub decreases-loop-i : goal.decreases-loop-i
-decreases-loop-i l = l.width - l.i
+abbrev pub invariant-loop-byte : goal.invariant-loop-byte
+invariant-loop-byte l = sets l.byte-items l.byte-index (le (l.width - l.byte-index) l.rest) ≡ sets l.initial.byte-items 0 (le l.width l.x)

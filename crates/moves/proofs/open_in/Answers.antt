@@ -1,32 +1,24 @@
-use Rattle.moves.specs.Lent.{step_state}
+use Rattle.state.specs.Lent.{state_with}
 use Rattle.moves.proofs.Opening.{can_open, can_open_to, opened_on, opened_off}
 use Rattle.moves.proofs.open_in.Goals as goal
 
-pub returns-then-moment : goal.returns-then-moment
-returns-then-moment c =
-    record {
-      is = let a = c.args in
-          λ z. opened_on (step_state z a.terms a.moment a.period.now a.deadline.now a.share.now a.order.now a.awake.now a.last.now a.rk.now a.rt.now a.wk.now a.wt.now a.slots.now) c.if-moment.true;
-    }
+pub returns-then-s-clause-is : goal.returns-then-s-clause-is
+returns-then-s-clause-is c = λ e x. opened_on _ c.if-s.true
 
 pub nonzero_div-tick : goal.nonzero_div-tick
-nonzero_div-tick c = (can_open _ c.requires.whole.1 c.if-moment.false).scale_pos
+nonzero_div-tick c = (can_open _ c.requires.whole.2 c.if-s.false).scale_pos
 
-pub plane_end-end_tick-requires : goal.plane_end-end_tick-requires
-plane_end-end_tick-requires c = record { came = let k = can_open _ c.requires.whole.1 c.if-moment.false in (k.some_row, k.came) }
+pub plane_end-end-requires : goal.plane_end-end-requires
+plane_end-end-requires c = let k = can_open _ c.requires.whole.2 c.if-s.false in record { came = (k.some_row, k.came) }
 
-pub overflow_mul-close : goal.overflow_mul-close
-overflow_mul-close c = record { fits = (can_open_to _ c.requires.whole.1 c.if-moment.false _ c.plane_end-end_tick.ensures.is).small }
+pub overflow_mul-plane : goal.overflow_mul-plane
+overflow_mul-plane c = record { fits = (can_open_to _ c.requires.whole.2 c.if-s.false _ c.plane_end-end.ensures.is).small }
 
-pub overflow_sub-len : goal.overflow_sub-len
-overflow_sub-len c = (can_open_to _ c.requires.whole.1 c.if-moment.false _ c.plane_end-end_tick.ensures.is).later
+pub overflow_sub-end : goal.overflow_sub-end
+overflow_sub-end c = (can_open_to _ c.requires.whole.2 c.if-s.false _ c.plane_end-end.ensures.is).later
 
-pub open_plane-lengths-requires : goal.open_plane-lengths-requires
-open_plane-lengths-requires c = record { fit = (can_open_to _ c.requires.whole.1 c.if-moment.false _ c.plane_end-end_tick.ensures.is).ready }
+pub open_plane-requires : goal.open_plane-requires
+open_plane-requires c = record { fit = (can_open_to _ c.requires.whole.2 c.if-s.false _ c.plane_end-end.ensures.is).ready }
 
-pub returns : goal.returns
-returns c =
-    record {
-      is = let a = c.args in
-          λ z. opened_off (step_state z a.terms a.moment a.period.now a.deadline.now a.share.now a.order.now a.awake.now a.last.now a.rk.now a.rt.now a.wk.now a.wt.now a.slots.now) c.if-moment.false _ c.plane_end-end_tick.ensures.is _ c.open_plane-lengths.ensures.is;
-    }
+pub returns-clause-is : goal.returns-clause-is
+returns-clause-is c = λ e x. opened_off (state_with c.args.s.now e x c.args.last.now) c.if-s.false _ c.plane_end-end.ensures.is _ c.open_plane.ensures.is

@@ -1,13 +1,10 @@
-use mathlib.Core.Bool.{false}
-use lib.ListN.{get_or}
-use borrow.Author.Tests.{not-true, not-false}
 use Rattle.state.specs.Work.{enter_row}
 use Rattle.plane.proofs.enter_row.Goals as goal
 
-pub returns-then-not-awake-i : goal.returns-then-not-awake-i
+pub returns-then-awake-i-clause-is : goal.returns-then-awake-i-clause-is
 unfolding enter_row
-returns-then-not-awake-i c = record { is = let a = c.args in rw (not-true (get_or a.awake.now a.row false) c.if-not-awake-i.true-raw) }
+returns-then-awake-i-clause-is c = let e = c.from-i.ensures in rw (rw e at c.if-awake-i.true) (rw e at c.enter.ensures.is)
 
-pub returns : goal.returns
+pub returns-else-awake-i-clause-is : goal.returns-else-awake-i-clause-is
 unfolding enter_row
-returns c = record { is = let a = c.args in rw (not-false (get_or a.awake.now a.row false) c.if-not-awake-i.false-raw) c.enter.ensures.is }
+returns-else-awake-i-clause-is c = let e = c.from-i.ensures in rw (rw e at c.if-awake-i.false)

@@ -1,11 +1,7 @@
-use mathlib.Core.Path.{◌∙◌, ap}
-use Prim.Native.Nat.{ℕ, ◌-◌}
-use native.Mathlib.Omega.{arith}
-use Rattle.state.specs.Work.{seat}
+use Rattle.queue.specs.Lent.{queue_in}
+use Rattle.queue.specs.Queues.{top_task}
+use Rattle.plane.proofs.Seeking.{first_place}
 use Rattle.plane.proofs.top_place.Goals as goal
 
-pub overflow_sub-result : goal.overflow_sub-result
-overflow_sub-result c = omega (arith, c.seat_of.ensures.is ∙ ap (λ (t : ℕ). seat t c.args.slots.now) c.least_task.ensures.is, c.requires.sits)
-
 pub returns : goal.returns
-returns c = record { is = ap (λ (x : ℕ). x - 1) (c.seat_of.ensures.is ∙ ap (λ (t : ℕ). seat t c.args.slots.now) c.least_task.ensures.is) }
+returns c = record { is = first_place (top_task (queue_in c.args.crew.now.running)) c.args.crew.now.slots.now (rw c.least_task.ensures.is at c.seat_of.ensures.is) c.unwrap_or.ensures }

@@ -1,3 +1,4 @@
+use Rattle.std.proofs.Common.{rules}
 use Prim.Native.Nat.{◌*◌}
 use mathlib.Core.Path.{refl, sym, ◌∙◌}
 use native.Mathlib.Omega.{arith}
@@ -6,25 +7,23 @@ use Rattle.print.proofs.Records.{records_turn, records_none}
 use Rattle.print.proofs.put_records.Goals as goal
 
 pub loop-i-init : goal.loop-i-init
-loop-i-init c = (c.args.n, omega arith, refl, omega arith, refl, omega arith)
+loop-i-init c = record { same = record { out = refl; size = refl }; short = omega arith; left = (c.args.n, omega arith, refl, omega arith) }
 
 pub loop-i-preserved : goal.loop-i-preserved
 loop-i-preserved c =
     let k = c.loop-i in
-    let a = c.args in
-    let f = c.put_line-at.ensures.is in
-    let t = records_turn k.out c.put_line-at.new.out a.room.now k.at c.put_line-at.result a.m k.invariant.0 k.i (omega (arith, k.invariant.1)) (omega (arith, f.0.1, f.1, k.invariant.1, k.invariant.2, k.invariant.3, c.requires.room.2)) f.0 in (
-      t.0,
-      omega (arith, t.1, k.invariant.1),
-      c.put_line-at.auto.out ∙ k.invariant.2,
-      omega (arith, f.1, k.invariant.3),
-      sym t.2 ∙ k.invariant.4,
-      sym t.3 ∙ k.invariant.5,
-    )
+    let v = k.invariant in
+    let f = c.line.ensures.is in
+    let t = records_turn k.pen.out.now c.line.new.self.out.now c.args.room.now k.pen.at c.line.new.self.at c.args.m v.left.0 k.i (omega (arith, v.left.1)) (omega (arith, f.0.1, f.1)) f.0 in
+    record {
+      same = record { out = c.line.ensures.same.out ∙ v.same.out; size = c.line.ensures.same.size ∙ v.same.size };
+      short = omega (arith, f.1);
+      left = (t.0, omega (arith, t.1, v.left.1), sym t.2 ∙ v.left.2, sym t.3 ∙ v.left.3);
+    }
 
 pub returns-clause-is : goal.returns-clause-is
 returns-clause-is c =
-    let k = c.loop-i in
-    let a = c.args in
-    let t = records_none k.out (drop (48 * k.i) a.room.now) k.at a.m k.invariant.0 (omega (arith, k.invariant.1)) in
-    (sym t.0 ∙ k.invariant.4, omega (arith, t.1, k.invariant.5))
+    let v = c.loop-i.invariant in
+    let t = records_none c.loop-i.pen.out.now (drop (48 * c.loop-i.i) c.args.room.now) c.loop-i.pen.at c.args.m v.left.0 (omega (arith, v.left.1)) in
+    let all = sym t.0 ∙ v.left.2 in
+    (search (rules, all, v.same.out), omega (arith, t.1, v.left.3))

@@ -3,7 +3,7 @@ use mathlib.Core.Path.{◌≡◌, refl, sym, ap, ◌∙◌}
 use mathlib.Core.List.{List, ◌++◌, append_assoc, append-nil}
 use native.Mathlib.Omega.{arith}
 use lib.ListN.{length, take, drop, get_or, length-append, take-append-drop}
-use lib.Seq.{take_all, length-take-le}
+use lib.Seq.{length-take-le}
 use borrow.Author.Rules.{rules}
 use Rattle.ground.specs.Bytes.{le, pasted}
 use Rattle.rules.specs.Record.{slot_bytes}
@@ -28,27 +28,14 @@ pub loop-k-init : goal.loop-k-init
 unfolding slot_bytes
 loop-k-init c =
     let r = c.args.room.now in
-    (omega arith, refl, sym (ap (λ (x : List ℕ). x ++ drop 16 r) (append-nil (take 16 r)) ∙ take-append-drop 16 r))
+    (refl, sym (ap (λ (x : List ℕ). x ++ drop 16 r) (append-nil (take 16 r)) ∙ take-append-drop 16 r))
 
 pub loop-k-preserved : goal.loop-k-preserved
 loop-k-preserved c =
     let k = c.loop-k in
     let n : length c.args.slots ≡ 16 = search rules in (
-      omega arith,
-      c.put.auto.bytes ∙ k.invariant.1,
+      c.put.auto.bytes ∙ k.invariant.0,
       c.put.ensures.is
-          ∙ ap (λ (x : ℕ). pasted k.room (16 + 2 * k.k) (le 2 x)) c.wide_half.ensures.is
-          ∙ more k.room c.args.room.now c.args.slots k.k n (omega (arith, c.requires.fits)) (omega arith) k.invariant.2,
+          ∙ ap (λ (x : ℕ). pasted k.room (16 + 2 * k.k) (le 2 x)) c.from.ensures
+          ∙ more k.room c.args.room.now c.args.slots k.k n (omega (arith, c.requires.fits)) (omega arith) k.invariant.1,
     )
-
-pub returns : goal.returns
-returns c =
-    record {
-      is = let k = c.loop-k in
-          let n : length c.args.slots ≡ 16 = search rules in
-          let e : k.k ≡ 16 = omega arith in
-          let r = c.args.room.now in
-          k.invariant.2
-          ∙ ap (λ (m : ℕ). take 16 r ++ slot_bytes (take m c.args.slots) ++ drop (16 + 2 * m) r) e
-          ∙ ap (λ (x : List ℕ). take 16 r ++ slot_bytes x ++ drop 48 r) (take_all 16 c.args.slots (omega arith));
-    }

@@ -5,15 +5,17 @@ use Rattle.refusals.proofs.check.Goals as goal
 
 pub returns : goal.returns
 returns c =
+    let e = c.holds.ensures.is in
+    let p = c.places.ensures.is in
     let size : Sized _ = record {
-      order = c.measure16.ensures.is;
-      awake = c.measure_flags.ensures.is;
-      arrived = c.measure_flags-2.ensures.is;
-      last = c.measure64.ensures.is;
-      running_keys = c.measure64-2.ensures.is;
-      running_tasks = c.measure16-2.ensures.is;
-      waiting_keys = c.measure64-3.ensures.is;
-      waiting_tasks = c.measure16-3.ensures.is;
-      slots = c.measure_slots.ensures.is;
+      order = p.0;
+      awake = p.1;
+      arrived = c.told-arrived;
+      last = c.told-last;
+      running_keys = c.measure.ensures.is.0;
+      running_tasks = c.measure.ensures.is.1;
+      waiting_keys = c.measure-2.ensures.is.0;
+      waiting_tasks = c.measure-2.ensures.is.1;
+      slots = p.2;
     } in
-    record { is = record { holds = c.holds_lent.ensures.is; whole = λ e. holds_whole _ size (sym c.holds_lent.ensures.is ∙ e) } }
+    record { is = record { holds = e; whole = λ r. holds_whole _ size (sym e ∙ r) } }

@@ -1,12 +1,14 @@
-use mathlib.Core.Path.{◌∙◌}
-use Rattle.robinrow_c.proofs.Struct.{flagged_by}
-use Rattle.robinrow_c.proofs.Exports.{arrive_bad, arrive_good}
+use Rattle.std.proofs.Common.{rules, sym, ap, ◌∙◌}
+use Rattle.state.specs.declared.State.{State}
+use Rattle.inplace.proofs.Table.{arrive_table}
+use Rattle.calls.proofs.Answering.{joined_is}
+use Rattle.robinrow_c.proofs.Exports.{arrive_good}
 use Rattle.robinrow_c.proofs.robinrow_arrive_in.Goals as goal
-
-pub returns-then-not-flagged : goal.returns-then-not-flagged
-returns-then-not-flagged c = record { is = arrive_bad _ (flagged_by c.args.going _ _ _ _ _ c.read-awake_ok.ensures.is.0 c.read-arrived_ok.ensures.is.0 c.flagged.ensures.is ∙ c.if-not-flagged.true) _ c.number.ensures.is _ }
 
 pub returns : goal.returns
 returns c =
-    let ok = flagged_by c.args.going _ _ _ _ _ c.read-awake_ok.ensures.is.0 c.read-arrived_ok.ensures.is.0 c.flagged.ensures.is ∙ c.if-not-flagged.false in
-    record { is = arrive_good _ _ _ c.read-awake_ok.ensures.is.1 c.read-arrived_ok.ensures.is.1 ok _ _ c.number-2.ensures.is _ _ c.arrive-r.ensures.is _ _ c.write.ensures.is c.write-2.ensures.is }
+    let f = c.read_flags.ensures.is in
+    let e = c.arrive-answer.ensures.is in
+    let table = sym (ap (λ (k : State). k.table) e.1 ∙ arrive_table _ _) in
+    let state = joined_is _ _ _ _ _ _ _ _ table (search rules) (search rules) (search rules) (search rules) (search rules) (search rules) in
+    record { is = arrive_good _ _ _ f.1 f.2 (sym f.0 ∙ c.if-not-read_flags.false) _ _ c.number-2.ensures.is _ _ (e.0, state ∙ e.1) _ _ c.write.ensures.is c.write-2.ensures.is }

@@ -1,50 +1,71 @@
-use Prim.Native.Nat.{◌+◌}
-use mathlib.Core.Path.{sym, ◌∙◌}
-use native.Mathlib.Omega.{arith}
-use Rattle.text.proofs.Items.{item_word, item_one, item_two, item_three, item_more}
-use Rattle.text.proofs.Splitting.{piece_within}
+use Rattle.std.proofs.Common.{rules, tests}
+use mathlib.Core.Path.{◌≡◌, sym, ap, ◌∙◌}
+use mathlib.Core.List.{[], ◌∷◌}
+use Rattle.text.specs.Parts.{parts_of}
+use Rattle.text.specs.Lines.{of_parts, item_of}
+use Rattle.text.proofs.Cuts.{left, first_part, one_part, no_part, more_part, no_more}
 use Rattle.text.proofs.read_line.Goals as goal
 
-pub returns-then-n-a : goal.returns-then-n-a
-returns-then-n-a c =
+pub returns-in_err-a : goal.returns-in_err-a
+unfolding item_of
+returns-in_err-a c =
     record {
-      is = let s = c.args.line.now in
-          sym (item_word s c.find-a.result c.find-a.ensures.is c.if-n-a.true);
+      is = let p = c.split-parts.ensures in
+          let w = first_part c.split-parts.result c.next.new.self c.in_ok-word.word c.args.line.now c.split-parts.result.pred c.in_ok-word.ensures.steps p.rest p.done p.closure (λ x r q h. search (rules, tests)) in
+          let none = no_part c.next.new.self c.in_err-a.ensures.steps.0 in
+          let e : parts_of c.args.line.now ≡ c.in_ok-word.word.now ∷ [] = cc in
+          c.from_residual-in_err-a.ensures ∙ ap of_parts (sym e);
     }
 
-pub slice_bounds-with_one-end-then-n-b : goal.slice_bounds-with_one-end-then-n-b
-slice_bounds-with_one-end-then-n-b c = piece_within 32 c.args.line.now (c.find-a.result + 1) c.find-b.result c.find-b.ensures.is (omega arith)
-
-pub returns-then-n-b : goal.returns-then-n-b
-returns-then-n-b c =
+pub returns-in_default : goal.returns-in_default
+unfolding item_of
+returns-in_default c =
     record {
-      is = let s = c.args.line.now in
-          c.with_one.ensures.is ∙ sym (item_one s c.find-a.result c.find-a.ensures.is c.find-b.result c.if-n-a.false c.find-b.ensures.is c.if-n-b.true);
+      is = let p = c.split-parts.ensures in
+          let w = first_part c.split-parts.result c.next.new.self c.in_ok-word.word c.args.line.now c.split-parts.result.pred c.in_ok-word.ensures.steps p.rest p.done p.closure (λ x r q h. search (rules, tests)) in
+          let a = one_part c.next.new.self c.next-2.new.self c.in_ok-a.a w.0 c.in_ok-a.ensures.steps in
+          let none = no_part c.next-2.new.self c.in_default.ensures.steps.0 in
+          let e : parts_of c.args.line.now ≡ c.in_ok-word.word.now ∷ c.in_ok-a.a.now ∷ [] = cc in
+          c.with_one.ensures.is ∙ ap of_parts (sym e);
     }
 
-pub slice_bounds-with_two-end-then-n-c-2 : goal.slice_bounds-with_two-end-then-n-c-2
-slice_bounds-with_two-end-then-n-c-2 c = piece_within 32 c.args.line.now (c.find-b.result + 1) c.find-c.result c.find-c.ensures.is (omega arith)
-
-pub returns-then-n-c : goal.returns-then-n-c
-returns-then-n-c c =
+pub returns-in_default-next : goal.returns-in_default-next
+unfolding item_of
+returns-in_default-next c =
     record {
-      is = let s = c.args.line.now in
-          c.with_two.ensures.is ∙ sym (item_two s c.find-a.result c.find-a.ensures.is c.find-b.result c.if-n-a.false c.find-b.ensures.is c.find-c.result c.if-n-b.false c.find-c.ensures.is c.if-n-c.true);
+      is = let p = c.split-parts.ensures in
+          let w = first_part c.split-parts.result c.next.new.self c.in_ok-word.word c.args.line.now c.split-parts.result.pred c.in_ok-word.ensures.steps p.rest p.done p.closure (λ x r q h. search (rules, tests)) in
+          let a = one_part c.next.new.self c.next-2.new.self c.in_ok-a.a w.0 c.in_ok-a.ensures.steps in
+          let b = one_part c.next-2.new.self c.next-3.new.self c.in-Some.b a.0 c.in-Some.ensures.steps in
+          let none = no_part c.next-3.new.self c.in_default-next.ensures.steps.0 in
+          let e : parts_of c.args.line.now ≡ c.in_ok-word.word.now ∷ c.in_ok-a.a.now ∷ c.in-Some.b.now ∷ [] = cc in
+          c.with_two.ensures.is ∙ ap of_parts (sym e);
     }
 
-pub slice_bounds-with_three-end-then-n-d-3 : goal.slice_bounds-with_three-end-then-n-d-3
-slice_bounds-with_three-end-then-n-d-3 c = piece_within 32 c.args.line.now (c.find-c.result + 1) c.find-d.result c.find-d.ensures.is (omega arith)
-
-pub returns-then-n-d : goal.returns-then-n-d
-returns-then-n-d c =
+pub returns-then-is_some : goal.returns-then-is_some
+unfolding item_of
+returns-then-is_some c =
     record {
-      is = let s = c.args.line.now in
-          c.with_three.ensures.is ∙ sym (item_three s c.find-a.result c.find-a.ensures.is c.find-b.result c.if-n-a.false c.find-b.ensures.is c.find-c.result c.if-n-b.false c.find-c.ensures.is c.find-d.result c.if-n-c.false c.find-d.ensures.is c.if-n-d.true);
+      is = let p = c.split-parts.ensures in
+          let w = first_part c.split-parts.result c.next.new.self c.in_ok-word.word c.args.line.now c.split-parts.result.pred c.in_ok-word.ensures.steps p.rest p.done p.closure (λ x r q h. search (rules, tests)) in
+          let a = one_part c.next.new.self c.next-2.new.self c.in_ok-a.a w.0 c.in_ok-a.ensures.steps in
+          let b = one_part c.next-2.new.self c.next-3.new.self c.in-Some.b a.0 c.in-Some.ensures.steps in
+          let d = one_part c.next-3.new.self c.next-4.new.self c.in-Some-next.c b.0 c.in-Some-next.ensures.steps in
+          let m = more_part c.next-4.new.self c.next-5.new.self c.next-5.result d.0 c.next-5.ensures.steps (sym c.is_some.ensures ∙ c.if-is_some.true) in
+          let e : parts_of c.args.line.now ≡ c.in_ok-word.word.now ∷ c.in_ok-a.a.now ∷ c.in-Some.b.now ∷ c.in-Some-next.c.now ∷ m.0 ∷ left c.next-5.new.self = cc in
+          ap of_parts (sym e);
     }
 
 pub returns : goal.returns
+unfolding item_of
 returns c =
     record {
-      is = let s = c.args.line.now in
-          sym (item_more s c.find-a.result c.find-a.ensures.is c.find-b.result c.if-n-a.false c.find-b.ensures.is c.find-c.result c.if-n-b.false c.find-c.ensures.is c.find-d.result c.if-n-c.false c.find-d.ensures.is c.if-n-d.false);
+      is = let p = c.split-parts.ensures in
+          let w = first_part c.split-parts.result c.next.new.self c.in_ok-word.word c.args.line.now c.split-parts.result.pred c.in_ok-word.ensures.steps p.rest p.done p.closure (λ x r q h. search (rules, tests)) in
+          let a = one_part c.next.new.self c.next-2.new.self c.in_ok-a.a w.0 c.in_ok-a.ensures.steps in
+          let b = one_part c.next-2.new.self c.next-3.new.self c.in-Some.b a.0 c.in-Some.ensures.steps in
+          let d = one_part c.next-3.new.self c.next-4.new.self c.in-Some-next.c b.0 c.in-Some-next.ensures.steps in
+          let none = no_more _ c.next-4.new.self c.next-5.new.self c.next-5.result c.next-5.ensures.steps (sym c.is_some.ensures ∙ c.if-is_some.false) in
+          let e : parts_of c.args.line.now ≡ c.in_ok-word.word.now ∷ c.in_ok-a.a.now ∷ c.in-Some.b.now ∷ c.in-Some-next.c.now ∷ [] = cc in
+          c.with_three.ensures.is ∙ ap of_parts (sym e);
     }

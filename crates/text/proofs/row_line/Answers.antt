@@ -20,7 +20,7 @@ returns-then-left-eq0 c =
     record {
       is = let k = c.loop-at in
           let s = c.args.s.now in
-          let t : is_task (line_at s k.at).item ≡ true = ap (λ (x : Line). is_task x.item) (sym c.line_at-l.ensures.is) ∙ sym c.is_task.ensures.is ∙ c.if-is_task.true in
+          let t : is_task (line_at s k.at).item ≡ true = ap (λ (x : Line). is_task x.item) (sym c.line_at-line.ensures.is) ∙ sym c.is_task.ensures.is ∙ c.if-is_task.true in
           sym (sym k.invariant.2 ∙ ap (λ (n : ℕ). get_or (row_lines_in k.here (items_of (drop k.at s))) n 0) c.if-left-eq0.true ∙ row_line_here s k.at k.here t);
     }
 
@@ -28,15 +28,15 @@ pub loop-at-smaller : goal.loop-at-smaller
 loop-at-smaller c =
     let k = c.loop-at in
     let s = c.args.s.now in
-    let nx : c.line_at-l.result.next ≡ (line_at s k.at).next = ap (λ (x : Line). x.next) c.line_at-l.ensures.is in
+    let nx : c.line_at-line.result.next ≡ (line_at s k.at).next = ap (λ (x : Line). x.next) c.line_at-line.ensures.is in
     omega (arith, next_later s k.at c.loop-at-test.true)
 
 pub loop-at-preserved : goal.loop-at-preserved
 loop-at-preserved c =
     let k = c.loop-at in
     let s = c.args.s.now in
-    let nx : c.line_at-l.result.next ≡ (line_at s k.at).next = ap (λ (x : Line). x.next) c.line_at-l.ensures.is in
-    let it : c.is_task.result ≡ is_task (line_at s k.at).item = c.is_task.ensures.is ∙ ap (λ (x : Line). is_task x.item) c.line_at-l.ensures.is in
+    let nx : c.line_at-line.result.next ≡ (line_at s k.at).next = ap (λ (x : Line). x.next) c.line_at-line.ensures.is in
+    let it : c.is_task.result ≡ is_task (line_at s k.at).item = c.is_task.ensures.is ∙ ap (λ (x : Line). is_task x.item) c.line_at-line.ensures.is in
     let rest : ℕ → ℕ = λ n. get_or (row_lines_in (k.here + 1) (items_of (drop (line_at s k.at).next s))) n 0 in
     let g : rest c.if-is_task.left ≡ get_or (row_lines_in k.here (items_of (drop k.at s))) k.left 0 =
     elim c.if-is_task.branch [

@@ -1,34 +1,14 @@
-use mathlib.Core.Path.{sym, ◌∙◌}
-use mathlib.Core.Bool.{◌||◌}
-use lib.ListN.{get_or}
-use Rattle.state.specs.Sound.{slots_ok}
-use lib.Dec.{ltb, eqb}
-use Rattle.together_rows.proofs.Folds.{all_none, all_more, all_fails, all_whole}
+use Rattle.std.proofs.lemmas.Iterator.{cases_from_all, YieldsList-from_slice}
+use Rattle.std.proofs.lemmas.Iterator.Adapters.{YieldsList-from_skip}
+use Rattle.std.proofs.Common.{rules}
+use mathlib.Core.Path.{◌≡◌}
+use borrow.Author.Tests.{tests}
+use Rattle.together_queues.proofs.Slots.{slots_tested}
 use Rattle.together_queues.proofs.slots_ok.Goals as goal
 
-pub loop-p-init : goal.loop-p-init
-loop-p-init c = let a = c.args in all_none (λ j. ltb j a.m || eqb (get_or a.slots.now j 0) 0)
-
-pub returns-then-not-slot_ok : goal.returns-then-not-slot_ok
-unfolding slots_ok
-returns-then-not-slot_ok c =
-    record {
-      is = let a = c.args in
-          let k = c.loop-p in
-          sym (all_fails (λ j. ltb j a.m || eqb (get_or a.slots.now j 0) 0) 16 k.p c.loop-p-test.true (sym c.slot_ok.ensures.is ∙ c.if-not-slot_ok.true));
-    }
-
-pub loop-p-preserved : goal.loop-p-preserved
-loop-p-preserved c =
-    let a = c.args in
-    let k = c.loop-p in
-    all_more (λ j. ltb j a.m || eqb (get_or a.slots.now j 0) 0) k.p k.invariant (sym c.slot_ok.ensures.is ∙ c.if-not-slot_ok.false)
-
 pub returns : goal.returns
-unfolding slots_ok
 returns c =
     record {
-      is = let a = c.args in
-          let k = c.loop-p in
-          sym (all_whole (λ j. ltb j a.m || eqb (get_or a.slots.now j 0) 0) 16 k.p c.loop-p-test.false k.invariant);
+      is = slots_tested c.args.m c.args.slots.now (search rules) _
+          (cases_from_all _ _ _ (λ x. x ≡ 0) (λ x. ¬ (x ≡ 0)) c.all.ensures.ran (YieldsList-from_skip c.args.m (YieldsList-from_slice c.args.slots.now cc) cc) (λ x q k. search (rules, tests)) (λ x q k. search (rules, tests)));
     }

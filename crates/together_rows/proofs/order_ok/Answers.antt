@@ -1,35 +1,41 @@
-use mathlib.Core.Path.{sym, ◌∙◌}
-use borrow.Author.Tests.{not-true, not-false}
+use mathlib.Core.Path.{◌≡◌, sym}
+use mathlib.Core.Bool.{◌&&◌, false, true}
+use Rattle.std.proofs.Common.{rules}
+use Prim.Native.Nat.{◌+◌, ◌-◌}
+use native.Mathlib.Omega.{arith}
+use lib.Dec.{ltb}
+use Rattle.together_rows.specs.Tables.{ahead, order_ok}
 use Rattle.together_rows.proofs.Orders.{falls_first, falls_outside, falls_stops, falls_more, falls_end}
 use Rattle.together_rows.proofs.order_ok.Goals as goal
 
 pub returns-then-count-i : goal.returns-then-count-i
-returns-then-count-i c = record { is = let a = c.args in sym (falls_outside a.share.now a.order.now a.count _ _ c.place-i.ensures.is c.requires.inside.0 c.if-count-i.true) }
+unfolding order_ok
+returns-then-count-i c = record { is = let t = c.args.table in sym (falls_outside t.share.now t.order.now t.rows.count _ _ c.from-i.ensures c.requires.inside.0 c.if-count-i.true) }
 
 pub loop-k-init : goal.loop-k-init
-loop-k-init c = let a = c.args in falls_first a.share.now a.order.now a.count _ c.place-i.ensures.is c.if-count-i.false
+loop-k-init c = let t = c.args.table in falls_first t.share.now t.order.now t.rows.count _ c.from-i.ensures c.if-count-i.false
 
-pub next_ok-requires : goal.next_ok-requires
-next_ok-requires c = record { inside = let k = c.loop-k in (k.invariant.inside, c.requires.inside.1) }
-
-pub returns-then-not-next_ok : goal.returns-then-not-next_ok
-returns-then-not-next_ok c =
+pub returns-then-not-ahead : goal.returns-then-not-ahead
+unfolding order_ok
+returns-then-not-ahead c =
     record {
-      is = let a = c.args in
-          let k = c.loop-k in
-          sym (falls_stops a.share.now a.order.now a.count k.k k.i _ k.invariant c.place-j.ensures.is c.loop-k-test.true (sym c.next_ok.ensures.is ∙ not-true _ c.if-not-next_ok.true-raw));
+      is = let k = c.loop-k in
+          let t = c.args.table in
+          let z : k.k - 1 + 1 ≡ k.k = omega arith in
+          let s : ltb c.from-j.result t.rows.count && ahead t.share.now k.i c.from-j.result ≡ false = search rules in
+          sym (falls_stops t.share.now t.order.now t.rows.count (k.k - 1) k.i _ k.invariant (rw z c.from-j.ensures) (omega arith) s);
     }
 
 pub loop-k-preserved : goal.loop-k-preserved
 loop-k-preserved c =
-    let a = c.args in
     let k = c.loop-k in
-    falls_more a.share.now a.order.now a.count k.k k.i _ k.invariant c.place-j.ensures.is (sym c.next_ok.ensures.is ∙ not-false _ c.if-not-next_ok.false-raw)
+    let t = c.args.table in
+    let z : k.k - 1 + 1 ≡ k.k = omega arith in
+    let y : k.k ≡ k.k + 1 - 1 = omega arith in
+    let s : ltb c.from-j.result t.rows.count && ahead t.share.now k.i c.from-j.result ≡ true = search rules in
+    let F = falls_more t.share.now t.order.now t.rows.count (k.k - 1) k.i _ k.invariant (rw z c.from-j.ensures) s in
+    rw (z, y) at F
 
 pub returns : goal.returns
-returns c =
-    record {
-      is = let a = c.args in
-          let k = c.loop-k in
-          falls_end a.share.now a.order.now a.count k.k k.i k.invariant c.requires.inside.0 c.loop-k-test.false;
-    }
+unfolding order_ok
+returns c = record { is = let t = c.args.table in let k = c.loop-k in falls_end t.share.now t.order.now t.rows.count (k.k - 1) k.i k.invariant c.requires.inside.0 (omega arith) }

@@ -3,7 +3,4 @@ use Rattle.together_rows.proofs.Orders.{Falls}
 use Rattle.together_rows.proofs.order_ok.Given as goal
 
 abbrev pub invariant-loop-k : goal.invariant-loop-k
-invariant-loop-k l = Falls l.share l.order l.count l.k l.i
-
-abbrev pub decreases-loop-k : goal.decreases-loop-k
-decreases-loop-k l = l.last - l.k
+invariant-loop-k l = Falls l.table.share.now l.table.order.now l.count (l.k - 1) l.i
