@@ -1,5 +1,5 @@
+pub mod Answering
 pub mod RunSteps
 pub mod RunLoop
-pub mod Answering
 pub mod Table
 pub mod Places
