@@ -1,22 +1,26 @@
 -- The columns hold the rows of the bytes, and the verdict goes by the first test that fails
 use Rattle.std.specs.Prelude.{if◌then◌else◌, Err}
 use mathlib.Core.Path.{◌≡◌, refl, sym, ◌∙◌, ap, subst}
-use mathlib.Core.Bool.{Bool, true, false}
+use mathlib.Core.Bool.{Bool, true, false, ◌&&◌}
 use mathlib.Core.List.{List, map}
-use Prim.Native.Nat.{ℕ, ◌+◌, ◌*◌, ◌/◌, ◌≤◌, ◌<◌}
-use native.Mathlib.Nat.{mul-div_cancel_left}
+use Prim.Native.Nat.{ℕ, ◌+◌, ◌*◌, ◌/◌, ◌≤◌, ◌<◌, ◌%◌}
+use native.Mathlib.Nat.{mul-div_cancel_left, div-add-mod}
 use native.Mathlib.Omega.{arith}
 use lib.ListN.{length, get_or, replicate}
 use lib.Seq.{sets}
 use Rattle.ground.proofs.Ranges.{length_up, at_up}
 use Rattle.ground.specs.Sums.{up_from}
-use Rattle.rules.specs.Answers.{Done, Processors, TableLength}
+use Rattle.rules.specs.Answers.{Done, Processors, TableLength, is_done}
 use Rattle.rules.specs.Table.{Row, word_at, row_at, rows_of}
 use Rattle.rules.specs.Admission.{Verdict, plain, processors_ok, length_ok, fault_from, size_verdict, or_else, rows_verdict, admit_verdict}
 use Rattle.table.specs.declared.Fault.{Fault}
 use Rattle.table.specs.Rows.{row_in, rows_held, column_of, padded, Filled, verdict_in}
 use Rattle.table.proofs.Columning.{held_same}
 use Rattle.table.proofs.Padding.{padded_store, padded_at, padded_filled}
+use Rattle.table.specs.Tabled.{table_from, blank_table, refusal, tabled_by}
+use Rattle.ground.proofs.Tests.{leb_says, eqb_says, and_says, of_true}
+use lib.Dec.{leb, eqb}
+use Rattle.rules.proofs.Holding.{processors_says}
 
 -- THE ROWS
 -- an entry of a column that was read
@@ -63,6 +67,10 @@ read_as bytes n ps es ds h l p e d =
       deadlines = subst (λ (x : List ℕ). Filled x n) (sym d') (padded_filled (column_of 8 bytes n) n (col 8));
     }
 
+-- a verdict that is not Done hands back the blank table
+pub refusal_is : (v : Verdict) (m : ℕ) (rows : List Row) → is_done v.answer ≡ false → refusal v.answer v.row ≡ tabled_by v m rows
+refusal_is v m rows e = sym (ap (λ (t : Bool). record { answer = v.answer; row = v.row; table = if t then table_from m rows else blank_table }) e)
+
 -- THE VERDICT
 -- a faulty row comes first
 pub rows_fault : (m : ℕ) (rows : List Row) (f : Fault) → verdict_in (Err f) ≡ fault_from 1 rows → verdict_in (Err f) ≡ rows_verdict m rows
@@ -90,3 +98,17 @@ by_length bytes m p q = sym (verdict_by bytes m true false p q)
 
 pub by_rows : (bytes : List ℕ) (m : ℕ) → processors_ok m ≡ true → length_ok (length bytes) ≡ true → rows_verdict m (rows_of bytes) ≡ admit_verdict bytes m
 by_rows bytes m p q = sym (verdict_by bytes m true true p q)
+
+-- what the first two tests say
+pub processors_known : (m : ℕ) → processors_ok m ≡ true → (1 ≤ m) × (m ≤ 16)
+processors_known m e = of_true (processors_ok m) (processors_says m) e
+
+pub length_known : (n : ℕ) → length_ok n ≡ true → (1 ≤ n / 12) × (n / 12 ≤ 128) × (n ≡ 12 * (n / 12))
+length_known n e =
+    let s =
+    of_true (length_ok n)
+    (and_says (1 ≤ n) ((n ≤ 1536) × (n % 12 ≡ 0)) (leb 1 n) (leb n 1536 && eqb (n % 12) 0) (leb_says 1 n)
+    (and_says (n ≤ 1536) (n % 12 ≡ 0) (leb n 1536) (eqb (n % 12) 0) (leb_says n 1536) (eqb_says (n % 12) 0)))
+    e in
+    let d = div-add-mod n 12 in
+    (omega arith, omega arith, omega arith)

@@ -42,6 +42,9 @@ made_end n i s list h h' = let e : i ≡ length list = omega arith in rw (e, dro
 abbrev pub Listed : List ℕ → Cursor → Type 0
 Listed text c = (k : Cursor) → Lists text c k → Lists text first_cursor k
 
+pub listed_first : (text : List ℕ) (c : Cursor) → c ≡ first_cursor → Listed text c
+listed_first text c e k L = subst (λ (x : Cursor). Lists text x k) e L
+
 pub listed_on : (text : List ℕ) (c c' : Cursor) → c' ≡ cursor_of text c → is_ended c.stage ≡ false → Listed text c → Listed text c'
 listed_on text c c' e n W k L = W k (goes n (subst (λ (x : Cursor). Lists text x k) e L))
 

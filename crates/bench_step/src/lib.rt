@@ -14,8 +14,8 @@ ghost use Rattle.text.specs.Puts.{Put};
 ghost use Rattle.print.specs.Printed.{record_lines};
 
 use ground::Instant;
-use queue::Lane;
-use state::{Crew, InPlace, State};
+use queue::{Lane, LaneRef};
+use state::{Crew, CrewRef, InPlace, InPlaceRef, State};
 use table::{Columns, Rows};
 
 // One call in place: an arrival of this task, or from 4,294,967,296 on a step to the horizon that lies above.
@@ -75,12 +75,12 @@ pub extern "C" fn held_calls<'a>(
         period.now exec deadline.now share.now order.now awake.new arrived.new last.new rk.new rt.new wk.new wt.new slots.new
         ≡ done_all s list.now }
 {
-    let unread = [0; 128];
+    // nothing reads the executions: any column serves
     let mut s = InPlace {
         table: Columns {
             rows: Rows {
                 period,
-                exec: &unread,
+                exec: period,
                 deadline,
                 count,
             },
@@ -117,7 +117,69 @@ pub extern "C" fn held_calls<'a>(
     *waiting = s.crew.waiting.len;
 }
 
-// The check alone, where the arrays stand. It leaves all as it is.
+// The check alone.
+#[unsafe(no_mangle)]
+pub extern "C" fn held_check(
+    count: usize,
+    m: usize,
+    scale: u64,
+    present: u64,
+    going: bool,
+    end: u64,
+    running: usize,
+    waiting: usize,
+    period: &[u32; 128],
+    exec: &[u32; 128],
+    deadline: &[u32; 128],
+    share: &[u64; 128],
+    order: &[u16; 128],
+    awake: &[bool; 128],
+    arrived: &[bool; 128],
+    last: &[u64; 128],
+    rk: &[u64; 128],
+    rt: &[u16; 128],
+    wk: &[u64; 128],
+    wt: &[u16; 128],
+    slots: &[u16; 16],
+) -> bool
+    ensures is { result ≡ holds_of (state_at count m scale present going end running waiting
+        period.now exec.now deadline.now share.now order.now awake.now arrived.now last.now rk.now rt.now wk.now wt.now slots.now) }
+{
+    let s = InPlaceRef {
+        table: Columns {
+            rows: Rows {
+                period,
+                exec,
+                deadline,
+                count,
+            },
+            share,
+            order,
+            m,
+            scale,
+        },
+        now: Instant(present),
+        going,
+        end,
+        awake,
+        crew: CrewRef {
+            running: LaneRef {
+                keys: rk,
+                tasks: rt,
+                len: running,
+            },
+            waiting: LaneRef {
+                keys: wk,
+                tasks: wt,
+                len: waiting,
+            },
+            slots,
+        },
+    };
+    refusals::check(s, arrived, last)
+}
+
+// The same of arrays that are lent to be written. It leaves all as it is.
 #[unsafe(no_mangle)]
 pub extern "C" fn held_check_in_place<'a>(
     count: usize,
@@ -147,96 +209,9 @@ pub extern "C" fn held_check_in_place<'a>(
     ensures left { (awake.new ≡ awake.old) × (rk.new ≡ rk.old) × (rt.new ≡ rt.old) × (wk.new ≡ wk.old)
         × (wt.new ≡ wt.old) × (slots.new ≡ slots.old) }
 {
-    let s = InPlace {
-        table: Columns {
-            rows: Rows {
-                period,
-                exec,
-                deadline,
-                count,
-            },
-            share,
-            order,
-            m,
-            scale,
-        },
-        now: Instant(present),
-        going,
-        end,
-        awake,
-        crew: Crew {
-            running: Lane {
-                keys: rk,
-                tasks: rt,
-                len: running,
-            },
-            waiting: Lane {
-                keys: wk,
-                tasks: wt,
-                len: waiting,
-            },
-            slots,
-        },
-    };
-    together::holds(&s, arrived, last)
-}
-
-// The same of arrays that are lent to be read: on copies of those that a state in place may write to.
-#[unsafe(no_mangle)]
-pub extern "C" fn held_check(
-    count: usize,
-    m: usize,
-    scale: u64,
-    present: u64,
-    going: bool,
-    end: u64,
-    running: usize,
-    waiting: usize,
-    period: &[u32; 128],
-    exec: &[u32; 128],
-    deadline: &[u32; 128],
-    share: &[u64; 128],
-    order: &[u16; 128],
-    awake: &[bool; 128],
-    arrived: &[bool; 128],
-    last: &[u64; 128],
-    rk: &[u64; 128],
-    rt: &[u16; 128],
-    wk: &[u64; 128],
-    wt: &[u16; 128],
-    slots: &[u16; 16],
-) -> bool
-    ensures is { result ≡ holds_of (state_at count m scale present going end running waiting
-        period.now exec.now deadline.now share.now order.now awake.now arrived.now last.now rk.now rt.now wk.now wt.now slots.now) }
-{
-    let mut up = *awake;
-    let mut run_keys = *rk;
-    let mut run_tasks = *rt;
-    let mut wait_keys = *wk;
-    let mut wait_tasks = *wt;
-    let mut seats = *slots;
-    held_check_in_place(
-        count,
-        m,
-        scale,
-        present,
-        going,
-        end,
-        running,
-        waiting,
-        period,
-        exec,
-        deadline,
-        share,
-        order,
-        &mut up,
-        arrived,
-        last,
-        &mut run_keys,
-        &mut run_tasks,
-        &mut wait_keys,
-        &mut wait_tasks,
-        &mut seats,
+    held_check(
+        count, m, scale, present, going, end, running, waiting, period, exec, deadline, share,
+        order, awake, arrived, last, rk, rt, wk, wt, slots,
     )
 }
 

@@ -131,7 +131,7 @@ module _ (text : List ℕ) (c : Cursor) (room : List ℕ) (O : OnItsWay text c) 
   next_made k W = record { whole = W; short = O.short; line = omega (arith, line_is, O.line, next_later text c.at on) }
 
   -- the lines after this one
-  abbrev later : List Turn
+  abbrev pub later : List Turn
   later = turns_in (c.line + 1) (items_of (drop (line_at text c.at).next text))
 
   next_owes : (k : State)

@@ -1,7 +1,7 @@
 -- What the tests say. A proof takes a test's value with what it says beside it, and goes by clauses.
 use Rattle.std.specs.Prelude.{if◌then◌else◌}
 use mathlib.Core.Path.{◌≡◌, refl, subst}
-use mathlib.Core.Bool.{Bool, true, false, ◌&&◌, ◌||◌}
+use mathlib.Core.Bool.{Bool, true, false, ◌&&◌, ◌||◌, not}
 use mathlib.Core.List.{List, [], ◌∷◌}
 use mathlib.Core.Logic.{◌⊎◌, inl, inr}
 use Prim.Native.Nat.{ℕ, zero, suc, ◌+◌, ◌≤◌, ◌<◌}
@@ -28,6 +28,10 @@ eqb_says a b = go (eqb a b) (eqb→eq a b) (λ e. rw e (eqb_refl b))
     go : (t : Bool) → (T t → a ≡ b) → (a ≡ b → T t) → Says (a ≡ b) t
     go true f g = f tt
     go false f g = g
+
+pub not_says : (P : Type 0) (b : Bool) → Says P b → Says (¬ P) (not b)
+not_says P true p = λ n. n p
+not_says P false p = p
 
 pub and_says : (P Q : Type 0) (a b : Bool) → Says P a → Says Q b → Says (P × Q) (a && b)
 and_says P Q true true p q = (p, q)

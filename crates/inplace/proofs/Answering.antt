@@ -2,12 +2,12 @@
 use mathlib.Core.Path.{◌≡◌}
 use mathlib.Core.Bool.{true, false}
 use mathlib.Core.List.{List, ◌++◌}
-use Prim.Native.Nat.{ℕ, ◌/◌}
+use Prim.Native.Nat.{ℕ, ◌/◌, ◌-◌}
 use lib.ListN.{length, drop}
 use Rattle.rules.specs.Answers.{Answer, is_done}
 use Rattle.rules.specs.Record.{record_bytes}
 use Rattle.state.specs.declared.State.{State}
-use Rattle.state.specs.Machine.{moved_of}
+use Rattle.state.specs.Machine.{moved_of, arrived_of}
 use Rattle.refusals.specs.Arrive.{arrive_answer_of}
 use Rattle.refusals.specs.Step.{step_answer_of}
 use Rattle.inplace.specs.Arrive.{arrive_state_of}
@@ -17,6 +17,10 @@ use Rattle.inplace.specs.Run.{went, filled_by, run_state_of, run_records_of, run
 -- a refused arrival hands back the state that it was given
 pub arrive_no : (s : State) (task : ℕ) (a : Answer) → a ≡ arrive_answer_of s task → is_done a ≡ false → s ≡ arrive_state_of s task
 arrive_no s task a e d = rw (← e, d)
+
+-- one that is taken, the state after it
+pub arrive_yes : (s : State) (task : ℕ) (a : Answer) → a ≡ arrive_answer_of s task → is_done a ≡ true → arrived_of s (task - 1) ≡ arrive_state_of s task
+arrive_yes s task a e d = rw (← e, d)
 
 module _ (s : State) (horizon : ℕ) (room : List ℕ) (a : Answer) (e : a ≡ step_answer_of s horizon (length room)) where
   -- a refused step and a refused run hand back the state and the room, and the run counts no record

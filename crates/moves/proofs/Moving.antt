@@ -8,6 +8,9 @@ use native.Mathlib.Omega.{arith}
 use borrow.Author.Tests.{eq-eqb}
 use Rattle.std.proofs.Math.Arith.{lt_of_le-ne}
 use lib.Dec.{lit≤, eqb}
+use mathlib.Core.List.{List}
+use Rattle.queue.specs.declared.Queue.{Queue}
+use Rattle.plane.specs.Lent.{parts_at}
 use Rattle.table.specs.declared.Table.{Table}
 use Rattle.state.specs.declared.State.{State}
 use Rattle.rules.specs.State.{on}
@@ -27,6 +30,14 @@ use Rattle.moves.specs.Whole.{Whole, Settles}
 use Rattle.moves.proofs.Keeping.{can_step, opened_table, together_of}
 use Rattle.moves.proofs.Opening.{end_small, instant_small}
 use Rattle.rules.specs.Bounds.{clock}
+
+-- the next instant, by two queues that show those of the plane
+pub next_seen : {run run_in wait wait_in : Queue} {x : ℕ} (m t e : ℕ) (slots : List ℕ) (stop : ℕ) → run ≡ run_in → wait ≡ wait_in
+    → x ≡ next_of (parts_at m t e run wait slots) stop → x ≡ next_of (parts_at m t e run_in wait_in slots) stop
+next_seen {run} {run_in} {wait} {wait_in} m t e slots stop r w h =
+    h
+    ∙ ap (λ (q : Queue). next_of (parts_at m t e q wait slots) stop) r
+    ∙ ap (λ (q : Queue). next_of (parts_at m t e run_in q slots) stop) w
 
 -- an open plane, as the rules know it
 pub plane_runs : (s : State) → Whole s → s.going ≡ true → Running s.table.m s.table.scale s.now.0 s.end (tasks_at s)

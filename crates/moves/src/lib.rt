@@ -4,7 +4,8 @@
 ghost use Rattle.std.specs.Prelude.{◌≡◌, Bool, true, List, ℕ, ◌*◌, ◌<◌, ◌≤◌, length};
 ghost use Rattle.rules.specs.Bounds.{clock};
 ghost use Rattle.rules.specs.Reasons.{Comes};
-ghost use Rattle.state.specs.Lent.{state_with, SamePlaces};
+ghost use Rattle.table.specs.declared.Table.{Table};
+ghost use Rattle.state.specs.Lent.{state_with, state_over, SamePlaces};
 ghost use Rattle.state.specs.Machine.{work_of, opened_of, move_to, moved_of, arrived_of};
 ghost use Rattle.state.specs.View.{view};
 ghost use Rattle.state.specs.Work.{next_of};
@@ -69,7 +70,8 @@ fn move_in(s: &mut InPlace, last: &[u64; 128], stop: Instant, room: &mut [u8])
         Writes (move_to k (next_of (work_of k) stop.0)) (state_with s.new exec arrived last.now) room.old room.new }
 {
     let close = Instant(s.end * s.table.scale);
-    let to = plane::next_instant(close, &s.crew, stop);
+    let crew = s.crew.shared();
+    let to = plane::next_instant(close, crew.running, crew.waiting, stop);
     let slots = &mut *s.crew.slots;
     record::write(room, s.now, to, slots);
     settle_in(s, last, to);
@@ -90,9 +92,9 @@ pub fn step_in(s: &mut InPlace, last: &[u64; 128], horizon: u64, room: &mut [u8]
 
 // An arrival of the task in row i: it is awake from this tick on, and joins the plane if one is open.
 pub fn arrive_in(s: &mut InPlace, arrived: &mut [bool; 128], last: &mut [u64; 128], i: usize)
-    requires ready { (exec : List ℕ) × let k = state_with s.old exec arrived.old last.old in Whole k × Comes (view k) i }
+    requires ready { (z : Table) × let k = state_over s.old z arrived.old last.old in Whole k × Comes (view k) i }
     ensures same { SamePlaces s.old s.new }
-    ensures is { (exec : List ℕ) → state_with s.new exec arrived.new last.new ≡ arrived_of (state_with s.old exec arrived.old last.old) i }
+    ensures is { (z : Table) → state_over s.new z arrived.new last.new ≡ arrived_of (state_over s.old z arrived.old last.old) i }
 {
     let table = s.table;
     let tick = s.now.0 / table.scale;

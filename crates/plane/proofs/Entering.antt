@@ -15,7 +15,7 @@ use Rattle.queue.specs.Queues.{entry, blank, earlier, entries, push_of}
 use Rattle.queue.proofs.Entries.{length_pairs, length_keys, length_tasks}
 use Rattle.queue.proofs.Keys.{push_len}
 use Rattle.queue.proofs.Walks.{rise_by}
-use Rattle.state.specs.Fit.{Room, Opens}
+use Rattle.state.specs.Fit.{Room, Opens, Enters}
 use Rattle.state.specs.Work.{Work, park, place, enter, enter_row, enter_all}
 
 -- THE ROOM STAYS
@@ -74,7 +74,25 @@ pub record Entering (awake : List Bool) (share : List ℕ) (len : ℕ) (order : 
   pub few : w.running.len + w.waiting.len ≤ i
   pub left : enter_all awake share len (drop i (take n order)) w ≡ enter_all awake share len (take n order) w₀
 
+pub entering_from : {awake : List Bool} {share : List ℕ} {len : ℕ} {order : List ℕ} {n : ℕ} {w : Work} → Opens w order share n len → Entering awake share len order n w w 0
+entering_from o = record { from = o; far = omega arith; room = o.room; now = refl; end = refl; few = omega (arith, o.idle); left = refl }
+
 module _ {awake : List Bool} {share : List ℕ} {len : ℕ} {order : List ℕ} {n : ℕ} {w₀ w : Work} {i : ℕ} (e : Entering awake share len order n w₀ w i) where
+  -- the next of the order is a row, which may enter
+  pub entering_row : i < n → get_or order i 0 < 128
+  entering_row h = omega (arith, e.from.inside i h, e.from.few)
+
+  pub entering_may : i < n → Enters w (get_or share (get_or order i 0) 0 * len)
+  entering_may h =
+      let o = e.from in
+      record {
+        room = e.room;
+        run_room = omega (arith, e.few, o.few);
+        wait_room = omega (arith, e.few, o.few);
+        amount = omega (arith, o.amounts (get_or order i 0) (o.inside i h), e.now, e.end);
+        small = omega (arith, o.small, e.end);
+      }
+
   all_there : length (take n order) ≡ n
   all_there = length-take-le n order (omega (arith, e.from.few, e.from.rows))
 

@@ -12,7 +12,7 @@ use Rattle.ground.proofs.Times.{up_turn, up_end}
 use Rattle.table.specs.declared.Table.{Table}
 use Rattle.state.specs.declared.Jobs.{Jobs}
 use Rattle.state.specs.Machine.{shorter_at, limit_at, least_limit, plane_end, sleep_row, sleep_all}
-use Rattle.plane.specs.Rows.{rows, jobs, Came}
+use Rattle.plane.specs.Rows.{rows, jobs, Came, CameAt}
 
 -- ONLY SOME COLUMNS ARE LOOKED AT
 pub end_of_rows : (t : Table) (j : Jobs) (tick : ℕ) → plane_end (rows t.period t.deadline t.count) (jobs j.awake j.last) tick ≡ plane_end t j tick
@@ -22,6 +22,10 @@ end_of_rows t j tick = refl
 pub sleep_of_rows : (t : Table) (last : List ℕ) (tick : ℕ) (awake : List Bool) → sleep_all (rows t.period t.deadline t.count) last tick awake ≡ sleep_all t last tick awake
 unfolding sleep_all sleep_row
 sleep_of_rows t last tick awake = refl
+
+-- WHAT A ROW ASKS
+pub came_at : {awake : List Bool} {last : List ℕ} {n tick i : ℕ} → Came awake last n tick → i < n → CameAt awake last tick i
+came_at {i = i} k h = record { inside = omega (arith, k.few); past = k.past i h; small = k.small }
 
 -- THE END
 -- the least of e and the limits from row i on is the plane's end

@@ -9,11 +9,13 @@ use mathlib.Core.List.{List, [], ◌∷◌}
 use Prim.Native.Nat.{ℕ, zero, suc, ◌+◌, ◌-◌, ◌≤◌, ◌<◌}
 use native.Mathlib.Numerals.{add-one}
 use native.Mathlib.Omega.{arith}
-use lib.ListN.{length, take}
-use lib.Seq.{length-take-le}
+use lib.ListN.{length, take, get_or, drop}
+use lib.Seq.{length-take-le, get_or-take}
 use Rattle.state.specs.Work.{seat_from, seat, first_idle}
-use Rattle.state.proofs.Seats.{seat_found}
+use Rattle.state.proofs.Seats.{seat_found, seat_turn, seat_past}
 use Rattle.plane.specs.Lent.{place_of}
+use mathlib.Core.Logic.{◌≢◌}
+use borrow.Author.Tests.{eq-eqb, ne_eqb}
 
 position_seat : (t p : ℕ) (l : List ℕ) → position_from (λ x. nat_eq x t) p l ≡ place_of (seat_from t (suc p) l)
 position_seat t p [] = refl
@@ -44,3 +46,30 @@ idle_inside m slots {p = p} h e z = go (first_idle m slots) (inside m slots h) (
     go : (n : ℕ) → ((r : ℕ) → n ≡ suc r → r < m) → place_of n ≡ Some p → p < m
     go zero f e = absurd (let h : None ≡ Some p = e in cc)
     go (suc r) f e = let g : r ≡ p = cc in omega (arith, f r refl)
+
+-- THE SEARCH, PLACE BY PLACE
+-- the search for t in l has come to place i
+pub record Seeks (t : ℕ) (l : List ℕ) (i : ℕ) : Type 0 where
+  pub far : i ≤ length l
+  pub left : seat_from t (i + 1) (drop i l) ≡ seat t l
+
+pub seeks_from : (t : ℕ) (l : List ℕ) → Seeks t l 0
+seeks_from t l = record { far = omega arith; left = refl }
+
+module _ {t : ℕ} {l : List ℕ} {i : ℕ} (s : Seeks t l i) where
+  pub seeks_found : i < length l → get_or l i 0 ≡ t → i + 1 ≡ seat t l
+  seeks_found h e = sym (rw (eq-eqb (get_or l i 0) t e) at (seat_turn t i l h)) ∙ s.left
+
+  pub seeks_on : i < length l → get_or l i 0 ≢ t → Seeks t l (i + 1)
+  seeks_on h e = record { far = omega arith; left = sym (rw (ne_eqb (get_or l i 0) t e) at (seat_turn t i l h)) ∙ s.left }
+
+  pub seeks_past : length l ≤ i → 0 ≡ seat t l
+  seeks_past h = sym (seat_past t i l (omega (arith, s.far))) ∙ s.left
+
+-- the first m slots
+module _ (m : ℕ) (slots : List ℕ) (room : length slots ≡ 16) (most : m ≤ 16) where
+  pub first_length : length (take m slots) ≡ m
+  first_length = length-take-le m slots (omega arith)
+
+  pub first_at : {i : ℕ} → i < m → get_or (take m slots) i 0 ≡ get_or slots i 0
+  first_at {i} h = get_or-take m slots i 0 h

@@ -1,16 +1,21 @@
 -- A WORK THAT LIES IN LENT PLACES
-use Rattle.std.specs.Prelude.{ℕ, zero, suc, Option, None, Some}
+use Rattle.std.specs.Prelude.{List, ℕ, zero, suc, Option, None, Some}
 use Rattle.queue.specs.Lent.{queue_in}
 use Rattle.queue.specs.Queues.{empty_queue}
+use Rattle.queue.specs.declared.Queue.{Queue}
 use Rattle.state.specs.declared.Crew.{Crew}
 use Rattle.state.specs.Work.{Work}
 use Rattle.state.specs.Fit.{Fit, Yielding}
 use Rattle.state.specs.Machine.{no_slots}
 use Rattle.plane.specs.declared.Plane.{Plane}
 
--- a work by its parts: m, the present, the end, and the crew
+-- a work by its parts: m, the present, the end, who runs, who waits, and the slots
+abbrev pub parts_at : ℕ → ℕ → ℕ → Queue → Queue → List ℕ → Work
+parts_at m t e run wait slots = record { m = m; now = t; end = e; running = run; waiting = wait; slots = slots }
+
+-- the same with a crew
 abbrev pub work_at : ℕ → ℕ → ℕ → Crew → Work
-work_at m t e c = record { m = m; now = t; end = e; running = queue_in c.running; waiting = queue_in c.waiting; slots = c.slots.now }
+work_at m t e c = parts_at m t e (queue_in c.running) (queue_in c.waiting) c.slots.now
 
 -- the same of a plane
 abbrev pub work : Plane → Crew → Work

@@ -1,20 +1,20 @@
 // The work of a plane in place: the queues' arrays and the slots are lent.
 #![tactic(auto)]
 
-ghost use Rattle.std.specs.Prelude.{◌≡◌, ℕ, ◌+◌, ◌*◌, ◌-◌, ◌≤◌, ◌<◌, get_or, take, nat_eq};
+ghost use Rattle.std.specs.Prelude.{◌≡◌, ℕ, List, ◌+◌, ◌*◌, ◌-◌, ◌≤◌, ◌<◌, get_or, take, nat_eq};
 ghost use Rattle.std.specs.List.{position};
-ghost use Rattle.queue.specs.Lent.{queue_in};
+ghost use Rattle.queue.specs.Lent.{at, queue_in};
 ghost use Rattle.queue.specs.Queues.{top_task};
 ghost use Rattle.state.specs.Lent.{SameCrew};
 ghost use Rattle.state.specs.Work.{seat, first_idle, rest_top, park, place, give_top, seize_top, joins};
 ghost use Rattle.state.specs.Work.{b_one, b_all, due, c_one, c_all, events_of, or_top, next_of, enter, enter_row, enter_all};
 ghost use Rattle.state.specs.Machine.{no_slots, shorter_at, limit_at, plane_end, sleep_row, sleep_all};
 ghost use Rattle.state.specs.Fit.{Fit, Yields, Eventful, Joining, Enters, Opens};
-ghost use Rattle.plane.specs.Lent.{work_at, work, cleared, place_of, Critical};
+ghost use Rattle.plane.specs.Lent.{parts_at, work_at, work, cleared, place_of, Critical};
 ghost use Rattle.plane.specs.Rows.{rows_in, jobs, Came, CameAt};
 
 use ground::{Amount, Instant};
-use queue::Lane;
+use queue::{Lane, LaneRef};
 use state::Crew;
 use table::{Columns, Rows};
 
@@ -193,8 +193,8 @@ pub fn events(plane: Plane, crew: &mut Crew)
 // THE NEXT INSTANT
 
 // The least key of a queue, if there is any, or another instant, whichever is earlier.
-fn or_top(lane: &Lane, other: Instant) -> Instant
-    ensures is { result ≡ record { 0 = or_top lane.now.keys.now lane.now.len other.0 } }
+fn or_top(lane: LaneRef, other: Instant) -> Instant
+    ensures is { result ≡ record { 0 = or_top lane.entry.keys.now lane.entry.len other.0 } }
 {
     if 0 < lane.len {
         lane.least_key().min(other)
@@ -203,12 +203,15 @@ fn or_top(lane: &Lane, other: Instant) -> Instant
     }
 }
 
-// The next instant at which something happens in the plane, or the stop: whatever m and the present are.
+// The next instant at which something happens in the plane, or the stop: whatever m and the present are, and whichever tasks these
+// keys have.
 #[tactic(auto, unfolding(state::specs::Work::next_of))]
-pub fn next_instant(close: Instant, crew: &Crew, stop: Instant) -> Instant
-    ensures is { (m t : ℕ) → result ≡ record { 0 = next_of (work_at m t close.0 crew.now) stop.0 } }
+pub fn next_instant(close: Instant, running: LaneRef, waiting: LaneRef, stop: Instant) -> Instant
+    ensures is { (m t : ℕ) (rt wt slots : List ℕ) → let run = at running.entry.keys.now rt running.entry.len in
+        let wait = at waiting.entry.keys.now wt waiting.entry.len in
+        result ≡ record { 0 = next_of (parts_at m t close.0 run wait slots) stop.0 } }
 {
-    or_top(&crew.running, or_top(&crew.waiting, close.min(stop)))
+    or_top(running, or_top(waiting, close.min(stop)))
 }
 
 // OPENING

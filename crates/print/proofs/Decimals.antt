@@ -9,7 +9,7 @@ use native.Mathlib.Omega.{arith}
 use borrow.Author.Tests.{lt-ltb, le-ltb}
 use lib.Dec.{ltb}
 use lib.ListN.{length, set, take, drop, length-append}
-use lib.Seq.{take-set-le, drop-cons, drop-set-lt, get_or-set_same, append_snoc, lt-length-set}
+use lib.Seq.{take-set-le, drop-cons, drop-set-lt, get_or-set_same, append_snoc, lt-length-set, set_split}
 use Rattle.ground.specs.Bytes.{pasted}
 use Rattle.ground.specs.Tests.{Says}
 use Rattle.ground.proofs.Tests.{ltb_says}
@@ -155,3 +155,6 @@ low_turn l at (suc i) y h k =
 pub low_none : (l : List ℕ) (at i y : ℕ) → i ≡ 0 → pasted l at (low i y) ≡ pasted l at []
 unfolding low
 low_none l at i y e = ap (λ (j : ℕ). pasted l at (low j y)) e
+
+pub paste_byte : (l : List ℕ) (at b : ℕ) → at < length l → set l at b ≡ pasted l at (b ∷ [])
+paste_byte l at b h = let e : suc at ≡ at + 1 = omega arith in set_split l at b h ∙ ap (λ (j : ℕ). take at l ++ b ∷ drop j l) e ∙ sym (append_snoc (take at l) b (drop (at + 1) l))

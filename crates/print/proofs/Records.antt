@@ -3,15 +3,15 @@ use Prim.Native.Nat.{ℕ, zero, suc, ◌+◌, ◌*◌, ◌≤◌, ◌<◌}
 use mathlib.Core.Path.{◌≡◌, refl, sym, ap, ◌∙◌}
 use mathlib.Core.List.{List, [], ◌∷◌, ◌++◌, append_assoc, append-nil}
 use native.Mathlib.Omega.{arith}
-use lib.ListN.{length, get_or, take, drop, length-append}
-use lib.Seq.{drop-drop, take-suc}
+use lib.ListN.{length, get_or, take, drop, length-append, set}
+use lib.Seq.{drop-drop, take-suc, sets, drop-cons}
 use Rattle.ground.specs.Bytes.{number, pasted}
 use Rattle.ground.proofs.Bytes.{paste_then, paste_none}
 use Rattle.rules.specs.Record.{slots_from, read_record}
 use Rattle.text.specs.Parts.{newline, space}
 use Rattle.print.specs.Decimals.{decimal_of}
 use Rattle.text.specs.Puts.{Put}
-use Rattle.print.specs.Printed.{spaced, record_line, record_lines}
+use Rattle.print.specs.Printed.{spaced, record_line, record_lines, scale_word, scale_line, refused_word, refused_line}
 use Rattle.print.proofs.Decimals.{digits_most, digits_few}
 
 -- the slots
@@ -49,6 +49,15 @@ decimal_most x = digits_most 20 x
 pub decimal_short : (x : ℕ) → x < 65536 → length (decimal_of x) ≤ 5
 decimal_short x h = digits_few 20 5 x (omega arith, omega arith)
 
+-- a word, byte by byte
+pub word_turn : (l w : List ℕ) (at i : ℕ) → i < length w → sets l (at + i) (drop i w) ≡ sets (set l (at + i) (get_or w i 0)) (at + (i + 1)) (drop (i + 1) w)
+word_turn l w at i h =
+    let e : suc (at + i) ≡ at + (i + 1) = omega arith in
+    let f : suc i ≡ i + 1 = omega arith in
+    ap (sets l (at + i)) (drop-cons w i 0 h)
+    ∙ ap (λ (n : ℕ). sets (set l (at + i) (get_or w i 0)) n (drop (suc i) w)) e
+    ∙ ap (λ (n : ℕ). sets (set l (at + i) (get_or w i 0)) (at + (i + 1)) (drop n w)) f
+
 -- the line of a record, as it is put
 pub record_line_lem : (m place : ℕ) (room : List ℕ)
     → decimal_of (number (take 8 (drop place room))) ++ (space ∷ decimal_of (number (take 8 (drop (place + 8) room)))) ++ spaced (take m (slots_from 16 (drop (place + 16) room))) ++ (newline ∷ [])
@@ -85,3 +94,12 @@ pub records_none : (l room : List ℕ) (at m j : ℕ) → j ≡ 0 → (pasted l 
 unfolding record_lines
 records_none l room at m j e =
     (ap (λ (k : ℕ). pasted l at (record_lines m k room)) e ∙ paste_none l at, ap (λ (k : ℕ). length (record_lines m k room)) e)
+
+-- how long the lines may be
+pub scale_short : (x : ℕ) → length (scale_line x) ≤ 27
+scale_short x =
+    omega (arith, length-append (scale_word ++ decimal_of x) (newline ∷ []), length-append scale_word (decimal_of x), decimal_most x)
+
+pub refused_short : (n line : ℕ) → length (refused_line n line) ≤ 50
+refused_short n line =
+    omega (arith, length-append (refused_word ++ decimal_of n ++ (space ∷ decimal_of line)) (newline ∷ []), length-append (refused_word ++ decimal_of n) (space ∷ decimal_of line), length-append refused_word (decimal_of n), decimal_most n, decimal_most line)

@@ -31,6 +31,20 @@ fn digit_count(x: u64) -> usize
     n + 4
 }
 
+// A number in decimal digits at a place; the next place.
+pub fn put_decimal(out: &mut [u8], at: usize, x: u64) -> usize
+    requires room { at + length (decimal_of x) ≤ length out.old }
+    ensures is { Put out.old at (decimal_of x) out.new result }
+{
+    let n = digit_count(x);
+    let mut y = x;
+    for i in (0..n).rev() {
+        out[at + i] = b'0' + (y % 10) as u8;
+        y /= 10;
+    }
+    at + n
+}
+
 // Bytes that are lent, and the place of the next one to be written.
 #[derive(Drop)]
 pub struct Pen<'a> {
@@ -66,13 +80,7 @@ impl Pen<'_> {
         ensures is { Writes self.old self.new (decimal_of x) }
         ensures same { SamePen self.old self.new }
     {
-        let n = digit_count(x);
-        let mut y = x;
-        for i in (0..n).rev() {
-            self.out[self.at + i] = b'0' + (y % 10) as u8;
-            y /= 10;
-        }
-        self.at += n;
+        self.at = put_decimal(self.out, self.at, x);
     }
 
     // A space and a number.

@@ -3,7 +3,7 @@
 
 ghost use Rattle.std.specs.Prelude.{◌≡◌, ◌+◌, ◌≤◌, OnOk, length, ltb};
 ghost use Rattle.rules.specs.Bounds.{clock, most_scale};
-ghost use Rattle.state.specs.Lent.{state_in};
+ghost use Rattle.state.specs.Lent.{state_in, state_seen};
 ghost use Rattle.moves.specs.Whole.{Whole};
 ghost use Rattle.refusals.specs.Check.{Checked};
 ghost use Rattle.refusals.specs.Arrive.{arrive_answer_of, comes_by, Dated, MayCome};
@@ -11,7 +11,7 @@ ghost use Rattle.refusals.specs.Step.{step_answer_of, moves_by, Ahead};
 
 use ground::Instant;
 use rules::Refusal;
-use state::InPlace;
+use state::{InPlace, InPlaceRef};
 use table::Columns;
 
 // Nothing is done, and the proofs learn that these arrays have their places.
@@ -20,12 +20,12 @@ fn places(order: &[u16; 128], awake: &[bool; 128], slots: &[u16; 16])
 {}
 
 // Does the state hold together? Then it is whole.
-pub fn check(s: &InPlace, arrived: &[bool; 128], last: &[u64; 128]) -> bool
-    ensures is { Checked (state_in s.entry.now arrived.now last.now) result }
+pub fn check(s: InPlaceRef, arrived: &[bool; 128], last: &[u64; 128]) -> bool
+    ensures is { Checked (state_seen s.entry arrived.now last.now) result }
 {
-    let crew = &s.crew;
-    crew.running.measure();
-    crew.waiting.measure();
+    let crew = s.crew;
+    queue::measure(crew.running.keys, crew.running.tasks);
+    queue::measure(crew.waiting.keys, crew.waiting.tasks);
     places(s.table.order, s.awake, crew.slots);
     together::holds(s, arrived, last)
 }
@@ -72,7 +72,7 @@ pub fn may_arrive(
     ensures is { result ≡ arrive_answer_of (state_in s.entry.now arrived.now last.now) task }
     ensures may { let k = state_in s.entry.now arrived.now last.now in OnOk result (Whole k × MayCome k task) }
 {
-    if !check(s, arrived, last) {
+    if !check(s.shared(), arrived, last) {
         return Err(Refusal::NotTogether);
     }
     comes(s.table, s.now, arrived, last, task)
@@ -107,7 +107,7 @@ pub fn may_step(
     ensures is { result ≡ step_answer_of (state_in s.entry.now arrived.now last.now) horizon len }
     ensures may { OnOk result (Ahead (state_in s.entry.now arrived.now last.now) horizon len) }
 {
-    if !check(s, arrived, last) {
+    if !check(s.shared(), arrived, last) {
         return Err(Refusal::NotTogether);
     }
     may_move(s.table.scale, s.now, horizon, len)

@@ -1,10 +1,10 @@
 -- Each export is its definition
 use mathlib.Core.Path.{◌≡◌, refl, sym, ap, ◌∙◌}
-use mathlib.Core.Bool.{Bool, true}
+use mathlib.Core.Bool.{Bool, true, false}
 use mathlib.Core.List.{List, map}
 use Prim.Native.Nat.{ℕ}
 use lib.ListN.{length}
-use Rattle.rules.specs.Answers.{Answer, number_of}
+use Rattle.rules.specs.Answers.{Answer, number_of, NotTogether}
 use Rattle.flags.specs.Flags.{bit, flag}
 use Rattle.state.specs.declared.State.{State}
 use Rattle.refusals.specs.Arrive.{arrive_answer_of}
@@ -16,8 +16,46 @@ use Rattle.calls.specs.Arrive.{arrive_of}
 use Rattle.calls.specs.Step.{step_of}
 use Rattle.calls.specs.Run.{run_of}
 use Rattle.robinrow_c.specs.Struct.{Struct, flagged, state_with, state_of, struct_of}
-use Rattle.robinrow_c.specs.Exports.{arrive_number, arrive_struct, step_number, step_struct, step_record, run_number, run_count, run_struct, run_records}
+use Rattle.robinrow_c.specs.Exports.{arrive_number, arrive_struct, step_number, step_struct, step_record, run_number, run_count, run_struct, run_records, admit_number, admit_struct}
 use Rattle.robinrow_c.proofs.Struct.{arrive_stands, going_back, arrived_back}
+use Rattle.admission.specs.declared.Admitted.{Admitted}
+use Rattle.admission.specs.Admit.{admit_of}
+
+-- ADMISSION, by what it leaves in the lent arrays
+pub admit_good : (bytes : List ℕ) (m : ℕ) (x : Admitted) → x ≡ admit_of bytes m → (n : ℕ) → n ≡ number_of x.answer → (awake arrived : List ℕ) → awake ≡ map bit x.state.jobs.awake → arrived ≡ map bit x.state.jobs.arrived
+    → (n ≡ admit_number bytes m) × (x.row ≡ (admit_of bytes m).row)
+    × (record {
+      table = x.state.table;
+      now = x.state.now.0;
+      going = bit x.state.going;
+      end = x.state.end;
+      awake = awake;
+      arrived = arrived;
+      last = x.state.jobs.last;
+      running = x.state.running;
+      waiting = x.state.waiting;
+      slots = x.state.slots;
+    }
+    ≡ admit_struct bytes m)
+admit_good bytes m x e n en awake arrived e4 e5 =
+    (en ∙ ap (λ (y : Admitted). number_of y.answer) e, ap (λ (y : Admitted). y.row) e, ap (λ l. with_flags l arrived) e4 ∙ ap (λ l. with_flags (map bit x.state.jobs.awake) l) e5 ∙ ap (λ (y : Admitted). struct_of y.state) e)
+  where
+    with_flags : List ℕ → List ℕ → Struct
+    with_flags a b = record { table = x.state.table; now = x.state.now.0; going = bit x.state.going; end = x.state.end; awake = a; arrived = b; last = x.state.jobs.last; running = x.state.running; waiting = x.state.waiting; slots = x.state.slots }
+
+-- A STRUCT WITH OTHER BYTES FOR FLAGS
+module _ (c : Struct) (bad : flagged c ≡ false) (n : ℕ) (e : n ≡ number_of NotTogether) where
+  pub arrive_bad : (task : ℕ) → (n ≡ arrive_number c task) × (c ≡ arrive_struct c task)
+  unfolding arrive_number arrive_struct
+  arrive_bad task = (rw (bad, e), rw bad)
+
+  pub step_bad : (horizon : ℕ) (room : List ℕ) → (n ≡ step_number c horizon room) × (c ≡ step_struct c horizon room) × (room ≡ step_record c horizon room)
+  unfolding step_number step_struct step_record
+  step_bad horizon room = (rw (bad, e), rw bad, rw bad)
+
+  pub run_bad : (horizon : ℕ) (room : List ℕ) → (n ≡ run_number c horizon room) × (c ≡ run_struct c horizon room) × (0 ≡ run_count c horizon room) × (room ≡ run_records c horizon room)
+  unfolding run_number run_struct run_count run_records
+  run_bad horizon room = (rw (bad, e), rw bad, rw bad, rw bad)
 
 -- the flags that were read
 module _ (c : Struct) (up came : List Bool) (eu : up ≡ map flag c.awake) (ec : came ≡ map flag c.arrived) where

@@ -29,7 +29,7 @@ use Rattle.demands.specs.Demands.{Call, Calls, calling, calling_all, starting, s
 use Rattle.demands.specs.Demands.Call.{arrive_call, step_call, run_call}
 use Rattle.demands.proofs.Demands.{demand_3}
 use Rattle.robinrow_c.specs.Struct.{Struct, state_of, struct_of}
-use Rattle.robinrow_c.specs.Exports.{arrive_number, arrive_struct, step_number, step_struct, step_record, run_count, run_struct, run_records, Held, holding, holding_all, seen_in, NextInC, InC}
+use Rattle.robinrow_c.specs.Exports.{arrive_number, arrive_struct, step_number, step_struct, step_record, run_count, run_struct, run_records, Held, holding, holding_all, seen_in, NextInC, InC, run_number}
 use Rattle.robinrow_c.proofs.Struct.{struct_flagged, struct_state}
 use Rattle.robinrow_c.proofs.Refusals.{by_flags}
 
@@ -55,6 +55,10 @@ module _ (s : State) where
     pub step_record_lem : step_record (struct_of s) h room ≡ step_room s h room
     unfolding step_record
     step_record_lem = ap (λ b. if b then step_room (state_of (struct_of s)) h room else room) (struct_flagged s) ∙ ap (λ x. step_room x h room) (struct_state s)
+
+    pub run_number_lem : run_number (struct_of s) h room ≡ number_of (run_of s h (length room)).answer
+    unfolding run_number
+    run_number_lem = ap (λ b. if b then number_of (run_of (state_of (struct_of s)) h (length room)).answer else 13) (struct_flagged s) ∙ ap (λ x. number_of (run_of x h (length room)).answer) (struct_state s)
 
     pub run_struct_lem : run_struct (struct_of s) h room ≡ struct_of (run_of s h (length room)).state
     unfolding run_struct

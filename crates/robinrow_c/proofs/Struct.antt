@@ -1,8 +1,8 @@
 -- The struct and the state stand for one another
 use Rattle.std.specs.Prelude.{if◌then◌else◌}
-use mathlib.Core.Path.{◌≡◌, refl}
+use mathlib.Core.Path.{◌≡◌, refl, sym, ap, ◌∙◌}
 use mathlib.Core.Bool.{Bool, true, false, ◌&&◌}
-use mathlib.Core.List.{map}
+use mathlib.Core.List.{map, List}
 use Prim.Native.Nat.{ℕ, ◌+◌, ◌-◌}
 use lib.Dec.{leb, ltb}
 use lib.ListN.{get_or}
@@ -27,6 +27,10 @@ struct_flagged s = rw (bits_ok s.jobs.awake, bits_ok s.jobs.arrived) (going s.go
 
 pub struct_state : (s : State) → state_of (struct_of s) ≡ s
 struct_state s = rw (flags_bits s.jobs.awake, flags_bits s.jobs.arrived, flag_bit s.going)
+
+-- the flags of a struct, by what was read of its columns
+pub flagged_by : (going : ℕ) (awake arrived : List ℕ) (a b t : Bool) → a ≡ flags_ok awake → b ≡ flags_ok arrived → t ≡ (leb going 1 && (a && b)) → (leb going 1 && (flags_ok awake && flags_ok arrived)) ≡ t
+flagged_by going awake arrived a b t e f g = sym (g ∙ ap (λ x. leb going 1 && (x && b)) e ∙ ap (λ x. leb going 1 && (flags_ok awake && x)) f)
 
 -- what flags say, one by one
 module _ (c : Struct) (ok : flagged c ≡ true) where

@@ -26,6 +26,7 @@ use Rattle.rules.proofs.Slots.{slots_ok}
 use Rattle.rules.proofs.Standing.{facts}
 use Rattle.rules.proofs.Time.{at_advance, still_awake, left_after, Room, advance_ok}
 use Rattle.rules.proofs.Lasts.{awake_came}
+use native.Mathlib.Nat.{lt_of_mul-lt-mul_right}
 
 -- ONE MORE RECORD
 -- it lies whole between two instants
@@ -75,6 +76,10 @@ RunningBooks scale now e l rs = (j : ℕ) → Awake (at j l) → ran (suc j) (la
 abbrev pub Books : State → Option ℕ → List Record → Type 0
 Books s none rs = Closing s.scale s.now s.tasks rs
 Books s (some e) rs = RunningBooks s.scale s.now e s.tasks rs
+
+-- an arrival is before the plane's end
+pub came_before : {m scale now e : ℕ} (l : List Task) → Running m scale now e l → (j : ℕ) → Awake (at j l) → last_of (at j l) < e
+came_before {scale = scale} {e = e} l P j w = lt_of_mul-lt-mul_right scale (omega (arith, awake_came P.lasts j w, P.going.later))
 
 -- OPENING
 ready_left : (len : ℕ) (t : Task) → Awake t → amount (ready len t) ≡ t.share * len

@@ -1,6 +1,7 @@
 pub mod Texts
 pub mod Splitting
 pub mod Numerals
+pub mod Digits
 pub mod Items
 pub mod Cuts
 pub mod Forms

@@ -26,11 +26,11 @@ pub and_false : (t : Bool) → (t && false) ≡ false
 and_false true = refl
 and_false false = refl
 
-not_digits : (p : List ℕ) → every is_digit p ≡ false → numeral_of p ≡ None
+pub not_digits : (p : List ℕ) → every is_digit p ≡ false → numeral_of p ≡ None
 unfolding numeral_of
 not_digits p e = rw (e, and_false (plain p))
 
-too_large : (p : List ℕ) → leb (spelled p) most_number ≡ false → numeral_of p ≡ None
+pub too_large : (p : List ℕ) → leb (spelled p) most_number ≡ false → numeral_of p ≡ None
 unfolding numeral_of
 too_large p e = rw (e, and_false (every is_digit p), and_false (plain p))
 

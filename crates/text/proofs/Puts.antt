@@ -5,7 +5,7 @@ use mathlib.Core.List.{List, ◌++◌}
 use native.Mathlib.Omega.{arith}
 use lib.ListN.{length, take, drop, length-append}
 use lib.Seq.{length-take-le, take_at}
-use Rattle.ground.proofs.Bytes.{paste_then}
+use Rattle.ground.proofs.Bytes.{paste_then, length_pasted}
 use Rattle.text.specs.Puts.{Put, Counts}
 
 -- one after the other
@@ -19,6 +19,12 @@ put_as l l₁ at n₁ v w e p = subst (λ (x : List ℕ). Put l at x l₁ n₁) 
 
 pub counted : (l : List ℕ) (n : ℕ) → n ≤ length l → Counts n l
 counted l n h = (h, sym (length-take-le n l h))
+
+-- what was put at the start can be lent as a part
+pub put_counts : (l l₁ v : List ℕ) (n : ℕ) → length v ≤ length l → Put l 0 v l₁ n → Counts n l₁
+put_counts l l₁ v n h p =
+    let e : length l₁ ≡ length l = ap length p.0 ∙ length_pasted l 0 v (omega arith) in
+    counted l₁ n (omega (arith, p.1))
 
 -- what was put at the start is that part
 pub put_part : (l v l' : List ℕ) (n : ℕ) → Put l 0 v l' n → take n l' ≡ v

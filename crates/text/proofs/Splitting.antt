@@ -8,9 +8,25 @@ use mathlib.Core.Bool.{Bool, true, false}
 use mathlib.Core.List.{List, [], ◌∷◌, ◌++◌}
 use native.Mathlib.Omega.{arith}
 use lib.Dec.{eqb}
-use lib.ListN.{length, take, drop, length-append, length-drop}
-use lib.Seq.{take_all, take_at, drop-drop}
+use lib.ListN.{length, take, drop, length-append, length-drop, get_or, drop_of_length-le}
+use lib.Seq.{take_all, take_at, drop-drop, drop-cons}
 use Rattle.text.specs.Parts.{in_front, split_by, first_at}
+use native.Mathlib.Numerals.{add-one}
+use borrow.Author.Tests.{eq-eqb, ne_eqb}
+
+-- a b stands here
+pub first_here : (b : ℕ) (s : List ℕ) (i : ℕ) → i < length s → get_or s i 0 ≡ b → first_at b (drop i s) ≡ 0
+unfolding first_at
+first_here b s i h e = ap (first_at b) (drop-cons s i 0 h) ∙ rw (eq-eqb (get_or s i 0) b e)
+
+-- none here: look further
+pub first_on : (b : ℕ) (s : List ℕ) (i : ℕ) → i < length s → (get_or s i 0 ≡ b → ⊥) → first_at b (drop i s) ≡ suc (first_at b (drop (i + 1) s))
+unfolding first_at
+first_on b s i h e = ap (first_at b) (drop-cons s i 0 h) ∙ rw (ne_eqb (get_or s i 0) b e, add-one)
+
+pub first_none : (b : ℕ) (s : List ℕ) (i : ℕ) → length s ≤ i → first_at b (drop i s) ≡ 0
+unfolding first_at
+first_none b s i h = rw drop_of_length-le
 
 pub first_within : (b : ℕ) (l : List ℕ) → first_at b l ≤ length l
 unfolding first_at
@@ -60,6 +76,9 @@ module _ (b : ℕ) (s : List ℕ) (at e : ℕ) (is : e ≡ at + first_at b (drop
       let k : length (drop at s) ≤ first_at b (drop at s) = omega (arith, length-drop at s) in
       let f : length (drop at s) ≤ e - at = omega (arith, length-drop at s) in
       split_last b (drop at s) k ∙ ap (λ (l : List ℕ). l ∷ []) (sym (take_all (e - at) (drop at s) f))
+
+  pub piece_within : at ≤ length s → e ≤ length s
+  piece_within h = omega (arith, first_within b (drop at s), length-drop at s)
 
 -- the first b is where the first match is
 pub first_match : (b : ℕ) (l : List ℕ) (n : ℕ) → n ≤ length l → IsFirstMatchOrLen (λ x. x == b) l n → n ≡ first_at b l

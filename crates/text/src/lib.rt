@@ -1,9 +1,9 @@
 // The program's text: its form and what it means.
 #![tactic(auto)]
 
-ghost use Rattle.std.specs.Prelude.{◌≡◌, ◌+◌, ◌≤◌, length, ◌++◌};
+ghost use Rattle.std.specs.Prelude.{◌≡◌, true, ◌+◌, ◌-◌, ◌*◌, ◌≤◌, length, ◌++◌};
 ghost use Rattle.ground.specs.Bytes.{le, pasted};
-ghost use Rattle.text.specs.Numbers.{plain, numeral_of};
+ghost use Rattle.text.specs.Numbers.{most_number, is_digit, plain, numeral_of};
 ghost use Rattle.text.specs.Lines.{with_one, with_two, with_three, item_of};
 ghost use Rattle.text.specs.declared.Stage.TheVariants.{Start};
 ghost use Rattle.text.specs.Form.{flaw_line, may_stand, stage_after, form_from, form_of};
@@ -66,16 +66,44 @@ fn is_plain(part: &[u8]) -> bool
     }
 }
 
-// The number that the part is, if it is one. `from_str_radix` alone would take a sign, and zeros in front.
+// Is the byte a digit?
+fn is_digit(b: u8) -> bool
+    ensures is { result ≡ is_digit b }
+{
+    b.is_ascii_digit()
+}
+
+// The largest number of a text.
+const MOST_NUMBER: u64 = 4294967295;
+
+// The number that v and one digit more spell.
+fn with_digit(v: u64, b: u8) -> u64
+    requires digit { (v ≤ most_number) × (is_digit b ≡ true) }
+    ensures is { result ≡ 10 * v + (b - 48) }
+{
+    let d = b - b'0';
+    10 * v + u64::from(d)
+}
+
+// The number that the part is, if it is one. It is read no further than tells.
 pub fn number(part: &[u8]) -> Option<u64>
     ensures is { result ≡ numeral_of part.now }
 {
-    if part.starts_with(b"+") || !is_plain(part) {
+    if !is_plain(part) {
         return None;
     }
-    let digits = str::from_utf8(part).ok()?;
-    let n = u32::from_str_radix(digits, 10).ok()?;
-    Some(u64::from(n))
+    let mut v: u64 = 0;
+    for i in 0..part.len() {
+        let b = part[i];
+        if !is_digit(b) {
+            return None;
+        }
+        v = with_digit(v, b);
+        if MOST_NUMBER < v {
+            return None;
+        }
+    }
+    Some(v)
 }
 
 // Are these the bytes of the word?

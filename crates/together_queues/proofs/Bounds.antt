@@ -2,8 +2,8 @@
 use mathlib.Core.Path.{◌≡◌}
 use mathlib.Core.Bool.{true}
 use mathlib.Core.List.{List}
-use Prim.Native.Nat.{ℕ, ◌+◌, ◌*◌, ◌-◌, ◌≤◌}
-use native.Mathlib.Nat.{mul-le-mul, mul-le-mul_right, mul-le-mul_left}
+use Prim.Native.Nat.{ℕ, ◌+◌, ◌*◌, ◌-◌, ◌≤◌, ◌/◌, ◌%◌, ◌<◌}
+use native.Mathlib.Nat.{mul-le-mul, mul-le-mul_right, mul-le-mul_left, div-le_of_le-mul, div-le_self, mod-lt}
 use native.Mathlib.Omega.{arith}
 use lib.ListN.{get_or}
 use Rattle.rules.specs.Bounds.{clock, most_scale}
@@ -11,6 +11,20 @@ use Rattle.together_rows.proofs.Folds.{sum_bound}
 use Rattle.together_queues.specs.Amounts.{run_sum, longest}
 use Rattle.together_queues.specs.Entries.{keys_ok}
 use Rattle.together_queues.proofs.Entries.{key_in}
+
+-- THE SUM CLAUSE
+pub record Fits (scale left shares : ℕ) : Type 0 where
+  pub whole : shares * (left / scale) ≤ 9223372036854775807
+  pub part : shares * (left % scale) ≤ 4611686018427387904
+  pub both : shares * (left / scale) + shares * (left % scale) / scale ≤ 18446744073709551615
+
+pub sum_parts : (scale left shares : ℕ) → 0 < scale → scale ≤ most_scale → left ≤ longest * scale → shares ≤ 16 * most_scale → Fits scale left shares
+sum_parts scale left shares p h k s =
+    let t : left / scale ≤ longest = div-le_of_le-mul scale (omega arith) in
+    let r : left % scale ≤ most_scale = omega (arith, mod-lt left {m = scale} p) in
+    let a : shares * (left / scale) ≤ 16 * most_scale * longest = mul-le-mul {n₂ = 16 * most_scale} {m₂ = longest} s t in
+    let b : shares * (left % scale) ≤ 16 * most_scale * most_scale = mul-le-mul {n₂ = 16 * most_scale} {m₂ = most_scale} s r in
+    record { whole = omega arith; part = omega arith; both = omega (arith, div-le_self (shares * (left % scale)) scale) }
 
 -- AMOUNTS
 -- what is left of a plane that ends soon enough

@@ -51,11 +51,11 @@ module _ (now top : ℕ) (q : Queue) (r₀ : Roll) where
   walked_from = record { met = meets_from q.len q.tasks r₀; turns = all_none (in_turn q.keys q.tasks); in_range = all_none key_at; total = sym (sum_none (λ j. get_or q.keys j 0 - now)) }
 
   -- an entry fails
-  key_fails : (i : ℕ) → i < q.len → key_at i ≡ false → enters r₀ now top q ≡ false
+  pub key_fails : (i : ℕ) → i < q.len → key_at i ≡ false → enters r₀ now top q ≡ false
   unfolding keys_ok
   key_fails i h e = second_fails (stands_of q) _ (second_fails (all_fresh r₀.count r₀.ok.now (take q.len q.tasks) r₀.met) _ (all_fails key_at q.len i h e))
 
-  turn_fails : (i : ℕ) → (0 < q.len → sized q.keys q.tasks) → q.len ≤ 128 → i < q.len → in_turn q.keys q.tasks i ≡ false → enters r₀ now top q ≡ false
+  pub turn_fails : (i : ℕ) → (0 < q.len → sized q.keys q.tasks) → q.len ≤ 128 → i < q.len → in_turn q.keys q.tasks i ≡ false → enters r₀ now top q ≡ false
   turn_fails i z b h e = and_first (stands_of q) _ (stands_same q.keys q.tasks q.len z b ∙ all_fails (in_turn q.keys q.tasks) q.len i h e)
 
   module _ {i : ℕ} {r : Roll} {sum : ℕ} (W : Walked i r sum) (z : 0 < q.len → sized q.keys q.tasks) (few : q.len ≤ 128) where
@@ -65,7 +65,7 @@ module _ (now top : ℕ) (q : Queue) (r₀ : Roll) where
     abbrev entry_at : Bool
     entry_at = (key_at i && fresh r.count r.ok.now r.met (get_or q.tasks i 0)) && in_turn q.keys q.tasks i
 
-    fresh_fails : i < q.len → fresh r.count r.ok.now r.met (get_or q.tasks i 0) ≡ false → enters r₀ now top q ≡ false
+    pub fresh_fails : i < q.len → fresh r.count r.ok.now r.met (get_or q.tasks i 0) ≡ false → enters r₀ now top q ≡ false
     fresh_fails h e =
         second_fails (stands_of q) _ (and_first (all_fresh r₀.count r₀.ok.now (take q.len q.tasks) r₀.met) _ (sym (meets_fails W.met room h (sym e))))
 
@@ -118,3 +118,29 @@ module _ (now top : ℕ) (q : Queue) (r₀ : Roll) where
           m.1,
           W.total ∙ ap (λ (x : ℕ). run_sum now q.keys x) e,
         )
+
+  -- the same of an entry, where less is known
+  module _ {i : ℕ} {r : Roll} {sum : ℕ} (W : Walked i r sum) where
+    pub fresh_stops : q.len ≤ length q.tasks → i < q.len → fresh r.count r.ok.now r.met (get_or q.tasks i 0) ≡ false → enters r₀ now top q ≡ false
+    fresh_stops room h e =
+        second_fails (stands_of q) _ (and_first (all_fresh r₀.count r₀.ok.now (take q.len q.tasks) r₀.met) _ (sym (meets_fails W.met room h (sym e))))
+
+    pub key_small : (b : ℕ) → top ≤ now + b → i < 128 → key_at i ≡ true → (now < get_or q.keys i 0) × (sum + (get_or q.keys i 0 - now) ≤ 128 * b)
+    unfolding keys_ok
+    key_small b h k e =
+        let more : keys_ok now top q.keys q.tasks (i + 1) ≡ true = all_more key_at i W.in_range e in
+        let t = W.total in (
+          (key_in now top q.keys q.tasks (i + 1) i more (omega arith)).1,
+          omega (arith, sum_fits (λ j. get_or q.keys j 0 - now) b i k (λ j l. let s = key_in now top q.keys q.tasks (i + 1) j more l in omega arith)),
+        )
+
+    pub walked_more : q.len ≤ length q.tasks → i < q.len → key_at i ≡ true → fresh r.count r.ok.now r.met (get_or q.tasks i 0) ≡ true → in_turn q.keys q.tasks i ≡ true
+        → (total : ℕ) → total ≡ sum + (get_or q.keys i 0 - now) → Walked (i + 1) (with_met r (mark r.met (get_or q.tasks i 0))) total
+    unfolding keys_ok
+    walked_more room h k f t total e =
+        record {
+          met = meets_on W.met room h (sym f);
+          turns = all_more (in_turn q.keys q.tasks) i W.turns t;
+          in_range = all_more key_at i W.in_range k;
+          total = let y = W.total in omega (arith, sum_more (λ j. get_or q.keys j 0 - now) i);
+        }

@@ -1,8 +1,8 @@
 -- Tasks met one after another: what is left to meet, and one turn
 use mathlib.Core.Path.{◌≡◌, refl, sym, ◌∙◌, ap}
-use mathlib.Core.Bool.{Bool, true, false, ◌&&◌}
+use mathlib.Core.Bool.{Bool, true, false, ◌&&◌, not}
 use mathlib.Core.List.{List, [], ◌∷◌}
-use Prim.Native.Nat.{ℕ, ◌+◌, ◌≤◌, ◌<◌}
+use Prim.Native.Nat.{ℕ, ◌+◌, ◌≤◌, ◌<◌, zero, suc, ◌-◌}
 use native.Mathlib.Omega.{arith}
 use native.Mathlib.Numerals.{add-one}
 use lib.ListN.{length, get_or, take, drop}
@@ -10,6 +10,9 @@ use lib.Seq.{drop-cons, drop-length, get_or-take, length-take-le}
 use Rattle.state.specs.Sound.{fresh, mark, all_fresh, all_marked}
 use Rattle.together_queues.specs.declared.Roll.{Roll}
 use Rattle.together_queues.specs.Entries.{with_met}
+use borrow.Author.Tests.{ltb-true, ne_eqb}
+use lib.Dec.{ltb}
+use Rattle.together_rows.proofs.Folds.{and_both}
 
 -- i of the first n tasks were met, and the roll stands as they left it
 pub record Meets (n : ℕ) (tasks : List ℕ) (r₀ : Roll) (i : ℕ) (r : Roll) : Type 0 where
@@ -56,3 +59,11 @@ module _ {n : ℕ} {tasks : List ℕ} {r₀ : Roll} {i : ℕ} {r : Roll} (M : Me
     sym (ap (λ (l : List ℕ). all_fresh r.count r.ok.now l r.met) (none_left h)) ∙ M.rest,
     M.same ∙ ap (with_met r₀) (sym (ap (λ (l : List ℕ). all_marked l r.met) (none_left h)) ∙ M.marked),
   )
+
+-- a fresh task has a place among the marks
+pub fresh_low : (count : ℕ) (ok marks : List Bool) (t : ℕ) → count ≤ 128 → fresh count ok marks t ≡ true → t ≤ 128
+fresh_low count ok marks zero h e = omega arith
+fresh_low count ok marks (suc u) h e =
+    let z : suc u - 1 ≡ u = omega arith in
+    let f : ltb u count && (get_or ok u false && not (get_or marks u false)) ≡ true = rw (ne_eqb (suc u) 0 (λ y. omega arith), z) at e in
+    omega (arith, ltb-true u count (and_both (ltb u count) _ f).0)

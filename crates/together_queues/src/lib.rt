@@ -2,15 +2,15 @@
 #![tactic(auto)]
 
 ghost use Rattle.std.specs.Prelude.{◌≡◌, Bool, true, false, ◌&&◌, ◌||◌, List, ℕ, ◌+◌, ◌-◌, ◌*◌, ◌%◌, ◌≤◌, ◌<◌, leb, ltb, eqb, length, take, MatchOption};
-ghost use Rattle.queue.specs.Lent.{at, queue_in};
+ghost use Rattle.queue.specs.Lent.{at, queue_seen};
 ghost use Rattle.rules.specs.Bounds.{most_scale};
 ghost use Rattle.state.specs.Sound.{no_marks, fresh, mark, all_fresh, all_marked, run_ok, runs_ok, slots_ok, sound_by};
 ghost use Rattle.together_queues.specs.Amounts.{idle_ok, run_sum, sum_ok, amounts_ok, longest, Soon};
 ghost use Rattle.together_queues.specs.Entries.{key_ok, with_met, enters};
 
 use ground::{Amount, Instant, between};
-use queue::Lane;
-use state::Crew;
+use queue::LaneRef;
+use state::CrewRef;
 use table::Columns;
 
 // MEMBERS
@@ -60,9 +60,9 @@ impl Roll<'_> {
 
     // Does the queue's order stand, is each task in turn fresh, and each key in its range? Then the sum of its keys, counted from the
     // present.
-    fn enter(&mut self, lane: &Lane, present: Instant, top: u64) -> Option<u64>
-        requires inside { (lane.now.len ≤ 128) × (self.old.count ≤ 128) × (top ≤ present.0 + longest * most_scale) }
-        ensures is { let q = queue_in lane.now in
+    fn enter(&mut self, lane: LaneRef, present: Instant, top: u64) -> Option<u64>
+        requires inside { (lane.len ≤ 128) × (self.old.count ≤ 128) × (top ≤ present.0 + longest * most_scale) }
+        ensures is { let q = queue_seen lane.entry in
             MatchOption result (enters self.old present.0 top q ≡ false) (λ sum. (enters self.old present.0 top q ≡ true)
             × (self.new ≡ with_met self.old (all_marked (take q.len q.tasks) self.old.met)) × (sum ≡ run_sum present.0 q.keys q.len)) }
     {
@@ -90,14 +90,12 @@ fn run_ok(present: Instant, seats: &[bool; 128], t: u16, key: u64) -> bool
 }
 
 // Every running entry?
-fn runs_ok(present: Instant, seats: &[bool; 128], lane: &Lane) -> bool
-    requires inside { lane.now.len ≤ 128 }
-    ensures is { result ≡ runs_ok present.0 seats.now lane.now.keys.now lane.now.tasks.now lane.now.len }
+fn runs_ok(present: Instant, seats: &[bool; 128], lane: LaneRef) -> bool
+    requires inside { lane.len ≤ 128 }
+    ensures is { result ≡ runs_ok present.0 seats.now lane.entry.keys.now lane.entry.tasks.now lane.entry.len }
 {
-    let keys: &[u64; 128] = lane.keys;
-    let tasks: &[u16; 128] = lane.tasks;
     for i in 0..lane.len {
-        if !run_ok(present, seats, tasks[i], keys[i]) {
+        if !run_ok(present, seats, lane.tasks[i], lane.keys[i]) {
             return false;
         }
     }
@@ -112,11 +110,11 @@ fn slots_ok(m: usize, slots: &[u16; 16]) -> bool
 }
 
 // Is who stands in a slot running, each once, nobody past m, and who runs in a slot?
-fn seats_ok(table: Columns, present: Instant, run: &[bool; 128], crew: &Crew) -> bool
-    requires inside { (table.rows.count ≤ 128) × (crew.now.running.len ≤ 128) }
-    ensures is { let slots = crew.now.slots.now in
+fn seats_ok(table: Columns, present: Instant, run: &[bool; 128], crew: CrewRef) -> bool
+    requires inside { (table.rows.count ≤ 128) × (crew.running.len ≤ 128) }
+    ensures is { let slots = crew.entry.slots.now in
         result ≡ slots_ok table.entry.m slots && (all_fresh table.entry.rows.count run.now slots no_marks
-        && runs_ok present.0 (all_marked slots no_marks) crew.now.running.keys.now crew.now.running.tasks.now crew.now.running.len) }
+        && runs_ok present.0 (all_marked slots no_marks) crew.entry.running.keys.now crew.entry.running.tasks.now crew.entry.running.len) }
 {
     let mut seats = Roll {
         count: table.rows.count,
@@ -125,7 +123,7 @@ fn seats_ok(table: Columns, present: Instant, run: &[bool; 128], crew: &Crew) ->
     };
     slots_ok(table.m, crew.slots)
         && seats.meet(crew.slots)
-        && runs_ok(present, &seats.met, &crew.running)
+        && runs_ok(present, &seats.met, crew.running)
 }
 
 // ENTRIES
@@ -159,11 +157,11 @@ fn sum_ok(scale: u64, left: Amount, amounts: Amount, shares: u64) -> bool
 // THE PLANE
 
 // A closed plane, at a whole tick: nobody runs or waits. So whatever its end is, who is awake, and what the places of the waiting hold.
-pub fn closed_ok(table: Columns, present: Instant, crew: &Crew) -> bool
+pub fn closed_ok(table: Columns, present: Instant, crew: CrewRef) -> bool
     requires small { (table.rows.count ≤ 128) × (table.m ≤ 16) × (0 < table.scale) }
     ensures is { (end : ℕ) (awake : List Bool) (wk wt : List ℕ) → result ≡ sound_by table.entry.rows.count table.entry.m present.0 end awake
-        (queue_in crew.now.running) (at wk wt crew.now.waiting.len) crew.now.slots.now
-        && (eqb (present.0 % table.entry.scale) 0 && (eqb crew.now.running.len 0 && eqb crew.now.waiting.len 0)) }
+        (queue_seen crew.entry.running) (at wk wt crew.entry.waiting.len) crew.entry.slots.now
+        && (eqb (present.0 % table.entry.scale) 0 && (eqb crew.entry.running.len 0 && eqb crew.entry.waiting.len 0)) }
 {
     present.0 % table.scale == 0
         && crew.running.len == 0
@@ -178,14 +176,14 @@ pub fn open_ok(
     present: Instant,
     end: u64,
     awake: &[bool; 128],
-    crew: &Crew,
+    crew: CrewRef,
 ) -> bool
     requires small { Soon shares table.rows.count table.m table.scale present.0 end }
     ensures is { let t = table.entry in
         let close = end * t.scale in
-        let run = queue_in crew.now.running in
-        let wait = queue_in crew.now.waiting in
-        result ≡ sound_by t.rows.count t.m present.0 close awake.now run wait crew.now.slots.now
+        let run = queue_seen crew.entry.running in
+        let wait = queue_seen crew.entry.waiting in
+        result ≡ sound_by t.rows.count t.m present.0 close awake.now run wait crew.entry.slots.now
         && (ltb present.0 close && amounts_ok shares t.m t.scale present.0 close run.keys run.len wait.keys wait.len) }
 {
     let close = Instant(end * table.scale);
@@ -199,13 +197,13 @@ pub fn open_ok(
         ok: awake,
         met: [false; 128],
     };
-    let Some(runs) = roll.enter(&crew.running, present, close.0) else {
+    let Some(runs) = roll.enter(crew.running, present, close.0) else {
         return false;
     };
     if !seats_ok(table, present, &roll.met, crew) {
         return false;
     }
-    let Some(waits) = roll.enter(&crew.waiting, present, close.0 - 1) else {
+    let Some(waits) = roll.enter(crew.waiting, present, close.0 - 1) else {
         return false;
     };
     let left = between(present, close);

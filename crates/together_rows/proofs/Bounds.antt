@@ -1,10 +1,10 @@
 -- Bounds that the tests of rows give the code, so that no sum and no product wraps
 use Rattle.std.specs.Prelude.{if◌then◌else◌}
-use mathlib.Core.Path.{◌≡◌}
+use mathlib.Core.Path.{◌≡◌, ap, refl}
 use mathlib.Core.Bool.{Bool, true, false, ◌&&◌}
 use mathlib.Core.List.{List}
 use Prim.Native.Nat.{ℕ, ◌+◌, ◌*◌, ◌/◌, ◌%◌, ◌≤◌, ◌<◌, min}
-use native.Mathlib.Nat.{mul-le-mul, mul-le-mul_right, div-le_of_le-mul}
+use native.Mathlib.Nat.{mul-le-mul, mul-le-mul_right, div-le_of_le-mul, div-le_self, div-add-mod'}
 use native.Mathlib.Omega.{arith}
 use borrow.Author.Tests.{leb-true, eqb-true}
 use lib.Dec.{leb, eqb}
@@ -16,7 +16,7 @@ use Rattle.rules.specs.Bounds.{clock, most_scale, most_ticks}
 use Rattle.rules.specs.Scale.{share_of}
 use Rattle.rules.proofs.Scale.{share_at_most}
 use Rattle.together_rows.specs.Tables.{row_ok, share_ok}
-use Rattle.together_rows.specs.Jobs.{last_ok, lasts_ok, ceil_of, awake_sum}
+use Rattle.together_rows.specs.Jobs.{last_ok, lasts_ok, ceil_of, awake_sum, soonest_of}
 use Rattle.together_rows.proofs.Tables.{row_ok_says}
 use Rattle.together_rows.proofs.Folds.{and_both, all_at, sum_more, sum_bound, sum_mono}
 
@@ -35,6 +35,10 @@ lasts_small arrived awake last tick n i e h =
     (all_at (λ j. last_ok (get_or arrived j false) (get_or awake j false) (get_or last j 0) tick) n i e h)
 
 -- LIMITS
+pub soonest_small : (arrived : Bool) (last p ceil : ℕ) → (arrived ≡ true → last ≤ clock) → ceil ≤ clock + 1 → soonest_of arrived last p ceil ≤ clock + 1 + p
+soonest_small true last p ceil h k = let x = h refl in omega arith
+soonest_small false last p ceil h k = omega arith
+
 -- THE INSTANT
 pub tick_small : (now scale : ℕ) → 0 < scale → now ≤ clock * scale → now / scale ≤ clock
 tick_small now scale p h = div-le_of_le-mul scale (omega arith)
@@ -82,6 +86,12 @@ row_within p x d e =
     }
 
 -- SHARES
+pub share_fits : (e d scale q : ℕ) → e ≤ most_ticks → scale ≤ most_scale → d ≡ scale / q → (d * q ≤ scale) × (e * d ≤ 140737488355328)
+share_fits e d scale q h k z =
+    let s : d ≤ most_scale = omega (arith, div-le_self scale q) in
+    let m : e * d ≤ most_ticks * most_scale = mul-le-mul {n₂ = most_ticks} {m₂ = most_scale} h s in
+    (omega (arith, ap (λ (x : ℕ). x * q) z, div-add-mod' scale q), omega arith)
+
 -- a share that passes is at most L
 pub share_within : (l p e d x : ℕ) → row_ok p e d ≡ true → share_ok l (min p d) e x ≡ true → x ≤ l
 unfolding share_of

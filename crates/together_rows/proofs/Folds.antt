@@ -134,6 +134,27 @@ pub and_both : (a b : Bool) → a && b ≡ true → (a ≡ true) × (b ≡ true)
 and_both true b e = (refl, e)
 and_both false b e = cc
 
+-- the same tests in another order: m and r, then w, then z
+pub parts_first : (m r w z : Bool) → m && r ≡ false → (r && (w && z)) && m ≡ false
+parts_first true true w z e = let y : ◌≡◌ {A = ℕ} 0 1 = cc in absurd (omega arith)
+parts_first true false w z e = refl
+parts_first false true true true e = refl
+parts_first false true true false e = refl
+parts_first false true false z e = refl
+parts_first false false w z e = refl
+
+pub parts_second : (m r w z : Bool) → w ≡ false → (r && (w && z)) && m ≡ false
+parts_second m true true z e = let y : ◌≡◌ {A = ℕ} 0 1 = cc in absurd (omega arith)
+parts_second m true false z e = refl
+parts_second m false w z e = refl
+
+pub parts_last : (m r w z : Bool) → m && r ≡ true → w ≡ true → (r && (w && z)) && m ≡ z
+parts_last true true true true e f = refl
+parts_last true true true false e f = refl
+parts_last true true false z e f = let y : ◌≡◌ {A = ℕ} 0 1 = cc in absurd (omega arith)
+parts_last true false w z e f = let y : ◌≡◌ {A = ℕ} 0 1 = cc in absurd (omega arith)
+parts_last false r w z e f = let y : ◌≡◌ {A = ℕ} 0 1 = cc in absurd (omega arith)
+
 -- the second test decides
 pub second_fails : (a b : Bool) → b ≡ false → a && b ≡ false
 second_fails true b e = e

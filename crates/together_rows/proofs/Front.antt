@@ -111,7 +111,7 @@ module _ (t : Table) (now : ℕ) (going : Bool) (end : ℕ) (jobs : Jobs) where
     pub each_some : (i : ℕ) → i < t.count → 0 < min (get_or t.period i 0) (get_or t.deadline i 0)
     each_some i h = (row_within (get_or t.period i 0) (get_or t.exec i 0) (get_or t.deadline i 0) (all_at row_at t.count i (all_both row_at share_at t.count halves.0).0 h)).some
 
-  front_whole : Front → front ≡ true
+  pub front_whole : Front → front ≡ true
   unfolding front_of table_ok scale_ok rows_ok shares_ok lasts_ok limits_ok
   front_whole F =
       let p = and_both (processors_ok t.m) _ F.sized in

@@ -18,6 +18,33 @@ use Rattle.together_rows.proofs.Bounds.{share_within, sum_fits, if_small, awake_
 use Rattle.together_rows.proofs.Folds.{all_none, all_more, all_at, all_fails, and_first, and_next, and_both, second_fails, sum_none, sum_more}
 use Rattle.together_rows.proofs.Tables.{common_more, common_one, gcd_with_one}
 
+-- A ROW
+-- a test that fails gives 0
+pub fails_first : (a b : Bool) (d : ℕ) → a ≡ false → 0 ≡ (if a && b then d else 0)
+fails_first true b d e = let z : ◌≡◌ {A = ℕ} 0 1 = cc in absurd (omega arith)
+fails_first false b d e = refl
+
+pub fails_next : (a b : Bool) (d : ℕ) → b ≡ false → 0 ≡ (if a && b then d else 0)
+fails_next true true d e = let z : ◌≡◌ {A = ℕ} 0 1 = cc in absurd (omega arith)
+fails_next true false d e = refl
+fails_next false b d e = refl
+
+pub holds_both : (a b : Bool) (d : ℕ) → a ≡ true → b ≡ true → d ≡ (if a && b then d else 0)
+holds_both true true d e f = refl
+holds_both true false d e f = let z : ◌≡◌ {A = ℕ} 0 1 = cc in absurd (omega arith)
+holds_both false b d e f = let z : ◌≡◌ {A = ℕ} 0 1 = cc in absurd (omega arith)
+
+-- no quotient, since the row or its share fails: L is above 0
+stops : (a b : Bool) (d r : ℕ) → r ≡ (if a && b then d else 0) → r ≡ 0 → (b ≡ true → ¬ (d ≡ 0)) → a && b ≡ false
+stops true true d r e z h = absurd (h refl (sym e ∙ z))
+stops true false d r e z h = refl
+stops false b d r e z h = refl
+
+some_quotient : (l q e x : ℕ) → 0 < l → share_ok l q e x ≡ true → ¬ (l / q ≡ 0)
+some_quotient l q e x p s z =
+    let m = eqb-true (l / q * q) l (and_both (eqb (l / q * q) l) _ s).0 in
+    omega (arith, ap (λ (d : ℕ). d * q) z)
+
 -- THE LOOP
 module _ (t : Table) (jobs : Jobs) (times : Times) where
   abbrev quotient_at : ℕ → ℕ
@@ -54,6 +81,13 @@ module _ (t : Table) (jobs : Jobs) (times : Times) where
   pub row_stops : (n i : ℕ) → i < n → false ≡ row_at i → each_ok t jobs times n ≡ false
   unfolding each_ok
   row_stops n i h e = all_fails (λ j. (row_at j && share_at j) && job_at j) n i h (and_first (row_at i && share_at i) _ (and_first (row_at i) _ (sym e)))
+
+  pub quotient_stops : (n i r : ℕ) → r ≡ (if row_at i && share_at i then quotient_at i else 0) → 0 < t.scale → i < n → r ≡ 0 → each_ok t jobs times n ≡ false
+  unfolding each_ok
+  quotient_stops n i r is p h e =
+      all_fails (λ j. (row_at j && share_at j) && job_at j) n i h
+      (and_first (row_at i && share_at i) _
+      (stops (row_at i) (share_at i) (quotient_at i) r is e (some_quotient t.scale (min (get_or t.period i 0) (get_or t.deadline i 0)) (get_or t.exec i 0) (get_or t.share i 0) p)))
 
   pub share_stops : (n i : ℕ) → i < n → false ≡ share_at i → each_ok t jobs times n ≡ false
   unfolding each_ok

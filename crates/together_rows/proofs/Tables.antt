@@ -1,23 +1,47 @@
 -- What the table's tests say of a row, and the common divisor row by row
 use mathlib.Core.Path.{◌≡◌, refl, sym, ◌∙◌, ap}
 use mathlib.Core.List.{List}
-use Prim.Native.Nat.{ℕ, zero, suc, ◌+◌, ◌-◌, ◌/◌, ◌≤◌, min}
+use Prim.Native.Nat.{ℕ, zero, suc, ◌+◌, ◌-◌, ◌/◌, ◌≤◌, min, ◌<◌, max}
 use native.Mathlib.Nat.{eq-one_of_dvd-one}
 use native.Mathlib.Numerals.{add-one}
 use native.Mathlib.Omega.{arith}
 use lib.ListN.{get_or}
 use Rattle.ground.specs.Tests.{Says}
-use Rattle.ground.proofs.Tests.{leb_says, and_says}
+use Rattle.ground.proofs.Tests.{leb_says, and_says, is_false, is_true}
 use Rattle.rules.specs.Reasons.{RowOk}
 use Rattle.rules.specs.Scale.{gcd}
 use Rattle.rules.specs.Table.{Row, shorter, row_in_range}
 use Rattle.rules.proofs.Admitting.{row_says}
 use Rattle.rules.proofs.Euclid.{gcd_divides_left, gcd_divides_right}
 use Rattle.together_rows.specs.Tables.{row_ok, common_below, ahead}
+use mathlib.Core.Bool.{Bool, true, false}
+use lib.Dec.{leb}
+use Rattle.rules.specs.Bounds.{most_ticks}
 
 -- ROWS
 pub row_ok_says : (r : Row) → Says (RowOk r) (row_ok r.period r.exec r.deadline)
 row_ok_says r = and_says _ _ (row_in_range r) _ (row_says r) (leb_says r.exec (shorter r))
+
+module _ (p e d : ℕ) where
+  abbrev row : Row
+  row = record { period = p; exec = e; deadline = d }
+
+  -- a row fails where e is 0, or above q
+  pub row_none : e ≡ 0 → row_ok p e d ≡ false
+  row_none z = is_false (row_ok p e d) (row_ok_says row) (λ R. let a = R.0.1.0 in omega arith)
+
+  pub row_over : min p d < e → row_ok p e d ≡ false
+  row_over h = is_false (row_ok p e d) (row_ok_says row) (λ R. let a = R.1 in omega arith)
+
+  -- otherwise the longer of p and D decides
+  pub row_longer : ¬ (e ≡ 0) → e ≤ min p d → leb (max p d) most_ticks ≡ row_ok p e d
+  row_longer n h = go (leb (max p d) most_ticks) (leb_says (max p d) most_ticks)
+    where
+      go : (b : Bool) → Says (max p d ≤ most_ticks) b → b ≡ row_ok p e d
+      go true s =
+          sym (is_true (row_ok p e d) (row_ok_says row)
+          (((omega arith, omega arith), (omega arith, omega arith), (omega arith, omega arith)), h))
+      go false s = sym (is_false (row_ok p e d) (row_ok_says row) (λ R. s (let a = R.0.0.1 in let b = R.0.2.1 in omega arith)))
 
 -- THE COMMON DIVISOR
 -- 1 has no other divisor

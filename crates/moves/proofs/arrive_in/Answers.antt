@@ -1,7 +1,7 @@
 use borrow.Author.Rules.{rules}
 use mathlib.Core.Path.{refl}
 use native.Mathlib.Omega.{arith}
-use Rattle.state.specs.Lent.{state_with}
+use Rattle.state.specs.Lent.{state_over}
 use Rattle.moves.proofs.Moving.{end_fits}
 use Rattle.moves.proofs.Arriving.{arrive_inside, arrive_scale, arrive_later, arrive_fits, arrive_joins, arrived_off, arrived_on}
 use Rattle.moves.proofs.arrive_in.Goals as goal
@@ -28,7 +28,7 @@ pub bounds-last-i : goal.bounds-last-i
 bounds-last-i c = arrive_inside c.requires.ready.1
 
 pub returns-then-not-s-clause-is : goal.returns-then-not-s-clause-is
-returns-then-not-s-clause-is c = λ e. arrived_off (state_with c.args.s.now e c.args.arrived.now c.args.last.now) _ c.if-not-s.true
+returns-then-not-s-clause-is c = λ z. arrived_off (state_over c.args.s.now z c.args.arrived.now c.args.last.now) _ c.if-not-s.true
 
 pub overflow_mul-plane : goal.overflow_mul-plane
 overflow_mul-plane c = record { fits = (end_fits _ c.requires.ready.1.0 c.if-not-s.false).0 }
@@ -49,4 +49,4 @@ pub join-requires : goal.join-requires
 join-requires c = let p = c.requires.ready.1 in record { fit = arrive_joins _ _ p.0 p.1 c.if-not-s.false }
 
 pub returns-clause-is : goal.returns-clause-is
-returns-clause-is c = λ e. arrived_on (state_with c.args.s.now e c.args.arrived.now c.args.last.now) _ c.if-not-s.false _ _ _ refl refl c.join.ensures.is
+returns-clause-is c = λ z. arrived_on (state_over c.args.s.now z c.args.arrived.now c.args.last.now) _ c.if-not-s.false _ _ _ refl refl c.join.ensures.is

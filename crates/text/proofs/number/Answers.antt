@@ -1,38 +1,46 @@
-use Rattle.std.specs.Prelude.{Some}
-use Rattle.std.specs.Str.Parse.{ParsesUnsigned}
-use Prim.Native.Nat.{ℕ}
-use mathlib.Core.List.{List}
-use mathlib.Core.Path.{sym, ap, subst, ◌∙◌}
-use Rattle.text.proofs.Numerals.{plus_front, not_plain, text_none, text_some, parsed}
+use Prim.Native.Nat.{ℕ, ◌+◌}
+use mathlib.Core.Path.{◌≡◌, sym, ap, ◌∙◌}
+use native.Mathlib.Omega.{arith}
+use lib.ListN.{drop}
+use Rattle.text.specs.Numbers.{is_digit, spelled, spelled_after}
+use Rattle.text.proofs.Numerals.{not_plain, not_digits, a_number}
+use Rattle.text.proofs.Digits.{every_on, every_stop, every_end, spelled_on, spelled_end, spelled_more, over_most}
 use Rattle.text.proofs.number.Goals as goal
-use Rattle.text.proofs.number.Goals.{then-starts_with-via-then-starts_with, then-starts_with-via-else-starts_with+then-not-is_plain}
 
-pub returns-then-starts_with : goal.returns-then-starts_with
-returns-then-starts_with c =
+pub returns-then-not-is_plain : goal.returns-then-not-is_plain
+returns-then-not-is_plain c = record { is = sym (not_plain c.args.part.now (sym c.is_plain.ensures.is ∙ c.if-not-is_plain.true)) }
+
+pub returns-then-not-is_digit : goal.returns-then-not-is_digit
+returns-then-not-is_digit c =
     record {
-      is = elim c.then-starts_with.branch [
-        | then-starts_with-via-then-starts_with w ↦ sym (plus_front c.args.part.now (sym c.starts_with.ensures.value ∙ w.if-starts_with.true))
-        | then-starts_with-via-else-starts_with+then-not-is_plain w ↦ sym (not_plain c.args.part.now (sym w.is_plain.ensures.is ∙ w.if-not-is_plain.true))
-      ];
+      is = let k = c.loop-i in
+          let p = c.args.part.now in
+          sym (not_digits p (sym k.invariant.2 ∙ every_stop is_digit p k.i c.loop-i-test.true (sym c.is_digit.ensures.is ∙ c.if-not-is_digit.true)));
     }
 
-pub returns-in_err-digits : goal.returns-in_err-digits
-returns-in_err-digits c = record { is = c.from_residual.ensures ∙ sym (text_none _ _ c.args.part.now c.from_utf8.result c.from_utf8.ensures.cases (sym c.ok.ensures.value ∙ c.in_err-digits.was)) }
-
-pub returns-in_err-n : goal.returns-in_err-n
-returns-in_err-n c =
+pub returns-then-v-gt-MOST_NUMBER : goal.returns-then-v-gt-MOST_NUMBER
+returns-then-v-gt-MOST_NUMBER c =
     record {
-      is = let p = c.args.part.now in
-          let e = text_some _ p c.in_ok-digits.digits c.from_utf8.result c.from_utf8.ensures.cases (sym c.ok.ensures.value ∙ c.in_ok-digits.was) in
-          let k = parsed p c.from_str_radix.result (sym c.starts_with.ensures.value ∙ c.if-starts_with.false) (sym c.is_plain.ensures.is ∙ c.if-not-is_plain.false) (subst (λ (q : List ℕ). ParsesUnsigned 32 10 q c.from_str_radix.result) e c.from_str_radix.ensures.value) in
-          c.from_residual-in_err-n.ensures ∙ sym (k ∙ sym c.ok-2.ensures.value ∙ c.in_err-n.was);
+      is = let k = c.loop-i in
+          let p = c.args.part.now in
+          let e : spelled_after c.with_digit-v.result (drop (k.i + 1) p) ≡ spelled p =
+          ap (λ (n : ℕ). spelled_after n (drop (k.i + 1) p)) c.with_digit-v.ensures.is ∙ sym (spelled_on k.v p k.i c.loop-i-test.true) ∙ k.invariant.3 in
+          sym (over_most p (omega (arith, spelled_more c.with_digit-v.result (drop (k.i + 1) p))));
     }
+
+pub loop-i-preserved : goal.loop-i-preserved
+loop-i-preserved c =
+    let k = c.loop-i in
+    let p = c.args.part.now in
+    let d = sym c.is_digit.ensures.is ∙ c.if-not-is_digit.false in
+    let e : spelled_after c.with_digit-v.result (drop (k.i + 1) p) ≡ spelled p =
+    ap (λ (n : ℕ). spelled_after n (drop (k.i + 1) p)) c.with_digit-v.ensures.is ∙ sym (spelled_on k.v p k.i c.loop-i-test.true) ∙ k.invariant.3 in
+    (c.if-v-gt-MOST_NUMBER.false, k.invariant.1, sym (every_on is_digit p k.i c.loop-i-test.true d) ∙ k.invariant.2, e)
 
 pub returns : goal.returns
 returns c =
     record {
-      is = let p = c.args.part.now in
-          let e = text_some _ p c.in_ok-digits.digits c.from_utf8.result c.from_utf8.ensures.cases (sym c.ok.ensures.value ∙ c.in_ok-digits.was) in
-          let k = parsed p c.from_str_radix.result (sym c.starts_with.ensures.value ∙ c.if-starts_with.false) (sym c.is_plain.ensures.is ∙ c.if-not-is_plain.false) (subst (λ (q : List ℕ). ParsesUnsigned 32 10 q c.from_str_radix.result) e c.from_str_radix.ensures.value) in
-          ap (λ (n : ℕ). Some n) c.from.ensures ∙ sym (k ∙ sym c.ok-2.ensures.value ∙ c.in_ok-n.was);
+      is = let k = c.loop-i in
+          let p = c.args.part.now in
+          sym (a_number p k.v k.invariant.1 (sym k.invariant.2 ∙ every_end is_digit p k.i (omega (arith, c.loop-i-test.false))) (sym k.invariant.3 ∙ spelled_end k.v p k.i (omega (arith, c.loop-i-test.false))) k.invariant.0);
     }

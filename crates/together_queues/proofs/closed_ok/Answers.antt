@@ -4,7 +4,7 @@ use mathlib.Core.Bool.{◌&&◌}
 use Prim.Native.Nat.{ℕ, ◌%◌}
 use borrow.Author.Tests.{eq-eqb}
 use lib.Dec.{eqb}
-use Rattle.queue.specs.Lent.{at, queue_in}
+use Rattle.queue.specs.Lent.{at, queue_seen}
 use Rattle.state.specs.Sound.{no_marks, all_fresh, all_marked, runs_ok, slots_ok, sound_by}
 use Rattle.together_rows.proofs.Folds.{and_next, second_holds}
 use Rattle.together_queues.proofs.Planes.{closed_sound}
@@ -16,9 +16,9 @@ returns-then-crew-eq0-2 c =
       is = let p = c.requires.small in
           let t = c.args.table in
           let now = c.args.present.0 in
-          let run = queue_in c.args.crew.now.running in
-          let n = c.args.crew.now.waiting.len in
-          let slots = c.args.crew.now.slots.now in
+          let run = queue_seen c.args.crew.running in
+          let n = c.args.crew.waiting.len in
+          let slots = c.args.crew.slots.now in
           let z : now % t.scale ≡ 0 = search rules in
           let r : run.len ≡ 0 = search rules in
           let w : n ≡ 0 = search rules in
