@@ -57,7 +57,7 @@
  * STACK. The most bytes that a call took, the inline function (gcc -O2) and the library together, by painting (tests/abi/stack):
  *
  *                admit   arrive     step      run
- *     x86-64       304    1,160    1,160    1,192
+ *     x86-64       304    1,392    1,392    1,440
  *     aarch64      344    1,216    1,248    1,312
  *     riscv64      320    1,360    1,376    1,424
  *
